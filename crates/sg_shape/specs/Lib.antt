@@ -1,0 +1,5 @@
+pub mod Plane
+pub mod Shapes
+pub mod Matrix
+pub mod Sound
+pub mod Bounds
