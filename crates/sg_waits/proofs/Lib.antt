@@ -1,0 +1,5 @@
+pub mod Chains
+pub mod Choice
+pub mod Finds
+pub mod Named
+pub mod Walks

@@ -1,0 +1,3 @@
+pub mod Ranks
+pub mod Search
+pub mod Standing
