@@ -1,0 +1,9 @@
+pub mod KeyLemmas
+pub mod Lookups
+pub mod PlaceLemmas
+pub mod Collects
+pub mod Removal
+pub mod SoundPush
+pub mod Unique
+pub mod Runs
+pub mod Replied

@@ -1,0 +1,72 @@
+ghost use Rattle.std.specs.Prelude.{◌↔◌, ◌∷◌, [], ◌++◌, IsTrue, IfOk, OnOk};
+ghost use Rattle.sg_shape.specs.Sound.{IsSound};
+ghost use Rattle.sg_plain.specs.Keys.{IsRising};
+ghost use Rattle.sg_plain.specs.Rows.{AreRows, IsKeysWith};
+ghost use Rattle.sg_plain.specs.Sat.{Sat};
+ghost use Rattle.sg_plain.specs.Takes.{Takes};
+
+use crate::keys::KeyList;
+use crate::statements::Test;
+use sg_shape::{Judge, Shape};
+use std::alloc::{AllocError, Global};
+
+/// The keys of the rows that satisfy the test against a shape.
+pub(crate) fn keys_with<J: Judge>(
+    alloc: Global,
+    judge: &J,
+    rows: &[(u32, Shape)],
+    test: Test,
+    shape: &Shape,
+) -> Result<KeyList, AllocError>
+    requires rows { AreRows rows.now }
+    requires sound { IsSound shape.now }
+    ensures { IfOk result (IsKeysWith (λ row. Sat test row shape.now) rows.now) }
+{
+    let mut keys = KeyList::new(alloc);
+    for row in rows {
+        take_row(alloc, judge, &mut keys, row, test, shape)?;
+    }
+    Ok(keys)
+}
+
+/// Puts the row's key last, if the row satisfies the test.
+fn take_row<J: Judge>(
+    alloc: Global,
+    judge: &J,
+    keys: &mut KeyList,
+    row: &(u32, Shape),
+    test: Test,
+    shape: &Shape,
+) -> Result<(), AllocError>
+    requires row { IsSound row.now.1 }
+    requires sound { IsSound shape.now }
+    requires above { IsRising (keys.old ++ row.now.0 ∷ []) }
+    ensures { OnOk result (Takes (λ row. Sat test row shape.now) row.now keys.old keys.new) }
+{
+    if !is_sat(alloc, judge, test, &row.1, shape)? {
+        return Ok(());
+    }
+    match keys.push(row.0) {
+        Ok(()) => Ok(()),
+        Err(_) => Err(AllocError),
+    }
+}
+
+fn is_sat<J: Judge>(
+    alloc: Global,
+    judge: &J,
+    test: Test,
+    row: &Shape,
+    shape: &Shape,
+) -> Result<bool, AllocError>
+    requires row { IsSound row.now }
+    requires sound { IsSound shape.now }
+    ensures { IfOk result (λ yes. IsTrue yes ↔ Sat test row.now shape.now) }
+{
+    match test {
+        Test::Relate(pred) => {
+            let matrix = judge.relate(alloc, row, shape)?;
+            Ok(matrix.satisfies(pred))
+        }
+    }
+}

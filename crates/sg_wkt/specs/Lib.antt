@@ -1,0 +1,6 @@
+pub mod Tokens
+pub mod Numbers
+pub mod Grammar
+pub mod Cursors
+pub mod Canonical
+pub mod Laws

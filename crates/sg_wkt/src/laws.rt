@@ -1,0 +1,24 @@
+//! What holds between reading and writing, for all sound shapes.
+
+ghost use Rattle.sg_wkt.specs.Laws.{IsOneLine, IsPrintable, ReadsBack, ReadsSound, TellsApart};
+
+/// What `write_wkt` appends for a sound shape of a kind that is read, `read_wkt` reads as that shape.
+pub fn reads_back()
+    ensures { ReadsBack }
+{}
+
+/// Two sound shapes with one canonical text are one shape.
+pub fn tells_apart()
+    ensures { TellsApart }
+{}
+
+/// The canonical text of a sound shape is printable ASCII, on one line.
+pub fn is_one_line()
+    ensures printable { IsPrintable }
+    ensures one_line { IsOneLine }
+{}
+
+/// Each shape that a text spells is sound.
+pub fn reads_sound()
+    ensures { ReadsSound }
+{}
