@@ -1,0 +1,5 @@
+pub mod Examples
+pub mod Places
+pub mod Splits
+pub mod Pieces
+pub mod Wholes

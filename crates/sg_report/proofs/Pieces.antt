@@ -1,0 +1,149 @@
+-- The pieces of a report's text: where one ends, and what it tells.
+use Rattle.std.proofs.Common.{◌≡◌, ℕ, zero, suc, ◌+◌, ◌*◌, ◌^◌, ◌<◌, Bool, true, false, ◌&&◌, ◌==◌, List, [], ◌∷◌, ◌++◌, length, get_or, codes, refl, arith, sym, ap, ◌∙◌, IsTrue}
+use Rattle.std.specs.Prelude.{All}
+use Rattle.std.proofs.lemmas.List.{append_assoc, append-nil, append_cancel_left}
+use Rattle.std.proofs.lemmas.List.Folds.{list_all-append}
+use Rattle.std.proofs.lemmas.Bool.Decides.{nat_tests}
+use Rattle.std.specs.Char.{is_ascii_digit}
+use Rattle.std.specs.Fmt.{decimal}
+use Rattle.std.specs.List.{flat_map, list_all}
+use Rattle.sg_shape.specs.declared.shapes.Shape.{Shape}
+use Rattle.sg_shape.specs.Sound.{IsSound}
+use Rattle.sg_plain.specs.declared.statements.Answer.{Answer}
+use Rattle.sg_plain.specs.declared.statements.Answer.TheVariants.{Inserted, Duplicate, Done, Missing, Absent, Found, Keys, Deleted}
+use Rattle.sg_wkt.specs.Canonical.{canonical}
+use Rattle.sg_wkt.specs.Laws.{TellsApart, IsPrintable, is_printable}
+use Rattle.sg_report.specs.Texts.{key_text, keys_text, answer_text, answer_line, owner_text, count_line, row_line}
+use Rattle.sg_report.specs.Laws.{AreKeys, IsAnswer, IsRow}
+use Rattle.sg_report.proofs.Splits.{Stops, both, split, list_all-wider, all_digits, split_number}
+
+-- ---- facts of each element
+pub first_of_all : {A : Type 0} (P : A → Type 0) (x : A) (xs : List A) → All P (x ∷ xs) → P x
+first_of_all P x xs all = let some : 0 < length (x ∷ xs) = omega arith in all 0 x some
+
+pub rest_of_all : {A : Type 0} (P : A → Type 0) (x : A) (xs : List A) → All P (x ∷ xs) → All P xs
+rest_of_all P x xs all k d within = let later : suc k < length (x ∷ xs) = omega arith in all (suc k) d later
+
+-- ---- regrouping
+by_three : (a b xs : List ℕ) → (a ++ b) ++ xs ≡ a ++ (b ++ xs)
+by_three a b xs = simp append_assoc
+
+by_five : (a b c d e xs : List ℕ) → ((((a ++ b) ++ c) ++ d) ++ e) ++ xs ≡ a ++ (b ++ (c ++ (d ++ (e ++ xs))))
+by_five a b c d e xs = simp append_assoc
+
+-- ---- whose a transaction was
+pub record SameOwner (s t : ℕ) (u v : ℕ) (xs ys : List ℕ) : Type 0 where
+  pub session : s ≡ u
+  pub transaction : t ≡ v
+  pub rest : xs ≡ ys
+
+pub owner_tells : (s t u v : ℕ) (xs ys : List ℕ) → s < 2 ^ 64 → t < 2 ^ 64 → u < 2 ^ 64 → v < 2 ^ 64 →
+    owner_text s t ++ xs ≡ owner_text u v ++ ys → SameOwner s t u v xs ys
+owner_tells s t u v xs ys hs ht hu hv e =
+    let session = codes " session " in
+    let transaction = codes " transaction " in
+    let line = sym (by_five session (decimal s) transaction (decimal t) (10 ∷ []) xs) ∙ e ∙ by_five session (decimal u) transaction (decimal v) (10 ∷ []) ys in
+    let one = split_number s u (transaction ++ (decimal t ++ 10 ∷ xs)) (transaction ++ (decimal v ++ 10 ∷ ys)) hs hu refl refl
+    (append_cancel_left session (decimal s ++ (transaction ++ (decimal t ++ 10 ∷ xs))) (decimal u ++ (transaction ++ (decimal v ++ 10 ∷ ys))) line) in
+    let two = split_number t v (10 ∷ xs) (10 ∷ ys) ht hv refl refl (append_cancel_left transaction (decimal t ++ 10 ∷ xs) (decimal v ++ 10 ∷ ys) one.1) in
+    record { session = one.0; transaction = two.0; rest = append_cancel_left (10 ∷ []) xs ys two.1 }
+
+-- ---- keys, to the end of the line
+after_keys : (ks xs : List ℕ) → Stops is_ascii_digit (keys_text ks ++ 10 ∷ xs)
+after_keys [] xs = refl
+after_keys (k ∷ ks) xs = refl
+
+short : (k : ℕ) → k < 2 ^ 32 → k < 2 ^ 64
+short k h = omega arith
+
+key_line_grouped : (k : ℕ) (ks xs : List ℕ) → keys_text (k ∷ ks) ++ 10 ∷ xs ≡ codes " " ++ (decimal k ++ (keys_text ks ++ 10 ∷ xs))
+key_line_grouped k ks xs = ap (λ text. 32 ∷ text) (by_three (decimal k) (keys_text ks) (10 ∷ xs))
+
+-- the first byte
+abbrev pub first : List ℕ → ℕ
+first text = get_or text 0 0
+
+pub unequal : (m n : ℕ) → (m == n) ≡ false → m ≡ n → ⊥
+unequal m n h e = grind (arith, nat_tests)
+
+pub keys_tell : (ks ls : List ℕ) (xs ys : List ℕ) → AreKeys ks → AreKeys ls → keys_text ks ++ 10 ∷ xs ≡ keys_text ls ++ 10 ∷ ys → (ks ≡ ls) × (xs ≡ ys)
+keys_tell [] [] xs ys hk hl e = (refl, append_cancel_left (10 ∷ []) xs ys e)
+keys_tell [] (l ∷ ls) xs ys hk hl e = absurd (unequal 10 32 refl (ap first e))
+keys_tell (k ∷ ks) [] xs ys hk hl e = absurd (unequal 32 10 refl (ap first e))
+keys_tell (k ∷ ks) (l ∷ ls) xs ys hk hl e =
+    let line = sym (key_line_grouped k ks xs) ∙ e ∙ key_line_grouped l ls ys in
+    let one = split_number k l (keys_text ks ++ 10 ∷ xs) (keys_text ls ++ 10 ∷ ys)
+    (short k (first_of_all (λ (n : ℕ). n < 2 ^ 32) k ks hk)) (short l (first_of_all (λ (n : ℕ). n < 2 ^ 32) l ls hl))
+    (after_keys ks xs) (after_keys ls ys) (append_cancel_left (codes " ") (decimal k ++ (keys_text ks ++ 10 ∷ xs)) (decimal l ++ (keys_text ls ++ 10 ∷ ys)) line) in
+    let rest = keys_tell ks ls xs ys (rest_of_all (λ (n : ℕ). n < 2 ^ 32) k ks hk) (rest_of_all (λ (n : ℕ). n < 2 ^ 32) l ls hl) one.1 in
+    let head : k ≡ l = one.0 in
+    let tail : ks ≡ ls = rest.0 in
+    (cc, rest.1)
+
+-- ---- answers, each on a line
+digit_printable : (b : ℕ) → is_ascii_digit b ≡ true → is_printable b ≡ true
+digit_printable b h = grind (arith, nat_tests)
+
+joined : (xs ys : List ℕ) → list_all is_printable xs ≡ true → list_all is_printable ys ≡ true → list_all is_printable (xs ++ ys) ≡ true
+joined xs ys h k = list_all-append is_printable xs ys ∙ both (list_all is_printable xs) (list_all is_printable ys) h k
+
+keys_printable : (ks : List ℕ) → list_all is_printable (keys_text ks) ≡ true
+keys_printable [] = refl
+keys_printable (k ∷ ks) =
+    joined (codes " " ++ decimal k) (keys_text ks) (list_all-wider is_ascii_digit is_printable digit_printable (decimal k) (all_digits k)) (keys_printable ks)
+
+module _ (apart : TellsApart) (printable : IsPrintable) where
+  answer_printable : (a : Answer) → IsAnswer a → list_all is_printable (answer_text a) ≡ true
+  answer_printable Inserted h = refl
+  answer_printable Duplicate h = refl
+  answer_printable Done h = refl
+  answer_printable Missing h = refl
+  answer_printable Absent h = refl
+  answer_printable (Found s) h = printable s h
+  answer_printable (Keys ks) h = keys_printable ks
+  answer_printable (Deleted ks) h = keys_printable ks
+
+  -- two texts of keys without the end of the line
+  whole_keys : (ks ls : List ℕ) → AreKeys ks → AreKeys ls → keys_text ks ≡ keys_text ls → ks ≡ ls
+  whole_keys ks ls hk hl e = (keys_tell ks ls [] [] hk hl (ap (λ text. text ++ 10 ∷ []) e)).0
+
+  -- the first byte and the third tell the kind of an answer
+  kind : List ℕ → ℕ
+  kind text = get_or text 0 0 * 256 + get_or text 2 0
+
+  pub answer_tells : (a b : Answer) → IsAnswer a → IsAnswer b → answer_text a ≡ answer_text b → a ≡ b
+  unfolding kind
+  answer_tells Inserted Inserted ha hb e = refl
+  answer_tells Duplicate Duplicate ha hb e = refl
+  answer_tells Done Done ha hb e = refl
+  answer_tells Missing Missing ha hb e = refl
+  answer_tells Absent Absent ha hb e = refl
+  answer_tells (Found s) (Found t) ha hb e = ap Found (apart s t ha hb (append_cancel_left (codes "shape ") (canonical s) (canonical t) e))
+  answer_tells (Keys ks) (Keys ls) ha hb e = ap Keys (whole_keys ks ls ha hb (append_cancel_left (codes "keys") (keys_text ks) (keys_text ls) e))
+  answer_tells (Deleted ks) (Deleted ls) ha hb e = ap Deleted (whole_keys ks ls ha hb (append_cancel_left (codes "deleted") (keys_text ks) (keys_text ls) e))
+  answer_tells a b ha hb e = let clash : kind (answer_text a) ≡ kind (answer_text b) = ap kind e in absurd (omega arith)
+
+  pub answer_line_tells : (a b : Answer) (xs ys : List ℕ) → IsAnswer a → IsAnswer b → answer_line a ++ xs ≡ answer_line b ++ ys → (a ≡ b) × (xs ≡ ys)
+  answer_line_tells a b xs ys ha hb e =
+      let line = sym (by_three (answer_text a) (10 ∷ []) xs) ∙ append_cancel_left (codes "  ") ((answer_text a ++ 10 ∷ []) ++ xs) ((answer_text b ++ 10 ∷ []) ++ ys) e ∙ by_three (answer_text b) (10 ∷ []) ys in
+      let parts = split is_printable (answer_text a) (answer_text b) (10 ∷ xs) (10 ∷ ys) (answer_printable a ha) (answer_printable b hb) refl refl line in
+      (answer_tells a b ha hb parts.0, append_cancel_left (10 ∷ []) xs ys parts.1)
+
+  -- ---- rows
+  row_grouped : (row : ℕ × Shape) (xs : List ℕ) → row_line row ++ xs ≡ codes "  " ++ (decimal row.0 ++ (codes " " ++ (canonical row.1 ++ 10 ∷ xs)))
+  row_grouped row xs = by_five (codes "  ") (decimal row.0) (codes " ") (canonical row.1) (10 ∷ []) xs
+
+  abbrev pair : ℕ → Shape → ℕ × Shape
+  pair key shape = (key, shape)
+
+  pub row_tells : (row other : ℕ × Shape) (xs ys : List ℕ) → IsRow row → IsRow other → row_line row ++ xs ≡ row_line other ++ ys → (row ≡ other) × (xs ≡ ys)
+  row_tells row other xs ys hr ho e =
+      let line = sym (row_grouped row xs) ∙ e ∙ row_grouped other ys in
+      let one = split_number row.0 other.0 (codes " " ++ (canonical row.1 ++ 10 ∷ xs)) (codes " " ++ (canonical other.1 ++ 10 ∷ ys)) (short row.0 hr.key) (short other.0 ho.key) refl refl
+      (append_cancel_left (codes "  ") (decimal row.0 ++ (codes " " ++ (canonical row.1 ++ 10 ∷ xs))) (decimal other.0 ++ (codes " " ++ (canonical other.1 ++ 10 ∷ ys))) line) in
+      let two = split is_printable (canonical row.1) (canonical other.1) (10 ∷ xs) (10 ∷ ys) (printable row.1 hr.shape) (printable other.1 ho.shape) refl refl
+      (append_cancel_left (codes " ") (canonical row.1 ++ 10 ∷ xs) (canonical other.1 ++ 10 ∷ ys) one.1) in
+      let key : row.0 ≡ other.0 = one.0 in
+      let shape : row.1 ≡ other.1 = apart row.1 other.1 hr.shape ho.shape two.0 in
+      let same : pair row.0 row.1 ≡ pair other.0 other.1 = cc in
+      (same, append_cancel_left (10 ∷ []) xs ys two.1)

@@ -1,0 +1,7 @@
+use Rattle.std.proofs.Common.{◌≡◌, ◌++◌, take}
+use Rattle.std.specs.List.{flat_map}
+use Rattle.sg_report.specs.Texts.{other_text}
+use Rattle.sg_report.proofs.texts.append_others.Given as goal
+
+abbrev pub invariant-loop-other : goal.invariant-loop-other
+invariant-loop-other l = l.out.items ≡ l.fn.out.items ++ flat_map other_text (take l.other-index l.others)

@@ -1,0 +1,49 @@
+-- What the text of a report tells.
+use Rattle.std.specs.Prelude.{◌≡◌, ℕ, ◌<◌, ◌^◌, List, All}
+use Rattle.sg_modes.specs.Sessions.{IsSession}
+use Rattle.sg_shape.specs.declared.shapes.Shape.{Shape}
+use Rattle.sg_shape.specs.Sound.{IsSound}
+use Rattle.sg_plain.specs.declared.statements.Answer.{Answer}
+use Rattle.sg_plain.specs.declared.statements.Answer.TheVariants.{Inserted, Duplicate, Done, Missing, Absent, Found, Keys, Deleted}
+use Rattle.sg_report.specs.declared.reports.Commit.{Commit}
+use Rattle.sg_report.specs.declared.reports.Other.{Other}
+use Rattle.sg_report.specs.declared.reports.Report.{Report}
+use Rattle.sg_report.specs.Texts.{report_text}
+
+-- Keys have 32 bits, and numbers of transactions 64: so it is in each report of a program.
+abbrev pub AreKeys : List ℕ → Type 0
+AreKeys ks = All (λ k. k < 2 ^ 32) ks
+
+-- the keys of an answer fit, and its shape is sound
+abbrev pub IsAnswer : Answer → Type 0
+IsAnswer Inserted = Unit {0}
+IsAnswer Duplicate = Unit {0}
+IsAnswer Done = Unit {0}
+IsAnswer Missing = Unit {0}
+IsAnswer Absent = Unit {0}
+IsAnswer (Found s) = IsSound s
+IsAnswer (Keys ks) = AreKeys ks
+IsAnswer (Deleted ks) = AreKeys ks
+
+pub record IsCommit (commit : Commit) : Type 0 where
+  pub session : IsSession commit.session
+  pub transaction : commit.transaction < 2 ^ 64
+  pub answers : All IsAnswer commit.answers
+
+pub record IsOther (other : Other) : Type 0 where
+  pub session : IsSession other.session
+  pub transaction : other.transaction < 2 ^ 64
+
+pub record IsRow (row : ℕ × Shape) : Type 0 where
+  pub key : row.0 < 2 ^ 32
+  pub shape : IsSound row.1
+
+-- all numbers fit, and all shapes are sound
+pub record IsReport (report : Report) : Type 0 where
+  pub commits : All IsCommit report.commits
+  pub others : All IsOther report.others
+  pub rows : All IsRow report.rows
+
+-- no two reports have one text
+abbrev pub TextTells : Type 0
+TextTells = (r s : Report) → IsReport r → IsReport s → report_text r ≡ report_text s → r ≡ s

@@ -1,0 +1,209 @@
+ghost use Rattle.std.specs.Prelude.{◌≡◌, ◌++◌, IfOk, OnOk, All, codes};
+ghost use Rattle.std.specs.Fmt.{decimal};
+ghost use Rattle.std.specs.List.{flat_map};
+ghost use Rattle.sg_shape.specs.Sound.{IsSound};
+ghost use Rattle.sg_plain.specs.Sat.{IsSoundAnswer, AreSoundAnswers};
+ghost use Rattle.sg_report.specs.Sound.{AreSoundCommits};
+ghost use Rattle.sg_report.specs.Texts.{answer_line, answer_text, commit_text, commits_text, key_text, keys_text, ending_text, other_text, owner_text, count_line, row_line, rows_text, report_text};
+
+use crate::reports::{Commit, Ending, Other, Report};
+use itoa::Buffer;
+use sg_plain::Answer;
+use sg_shape::Shape;
+use sg_wkt::write_wkt;
+use std::alloc::{AllocError, Global};
+
+/// The text of a run, each line ended by a line feed. First stands a line for each commit, with its place
+/// from 1, its session and its number there, and below it a line for each answer, after two spaces; then a line for
+/// each other transaction; then the number of rows, and a line for each row, after two spaces: its key and its
+/// canonical well-known text. `Err` comes for want of memory alone.
+pub fn report(alloc: Global, report: &Report) -> Result<Vec<u8>, AllocError>
+    requires { AreSoundCommits report.now.commits }
+    ensures { IfOk result (λ text. text.items ≡ report_text report.now) }
+{
+    let mut out = Vec::new(alloc);
+    append_commits(alloc, report.commits.as_slice(), &mut out)?;
+    append_others(report.others.as_slice(), &mut out)?;
+    append_rows(alloc, report.rows.as_slice(), &mut out)?;
+    Ok(out)
+}
+
+fn append_commits(alloc: Global, commits: &[Commit], out: &mut Vec<u8>) -> Result<(), AllocError>
+    requires { AreSoundCommits commits.now }
+    ensures { OnOk result (out.new.items ≡ out.old.items ++ commits_text commits.now) }
+{
+    for (index, commit) in commits.iter().enumerate() {
+        append_commit(alloc, index as u64 + 1, commit, out)?;
+    }
+    Ok(())
+}
+
+fn append_commit(
+    alloc: Global,
+    place: u64,
+    commit: &Commit,
+    out: &mut Vec<u8>,
+) -> Result<(), AllocError>
+    requires { AreSoundAnswers commit.now.answers }
+    ensures { OnOk result (out.new.items ≡ out.old.items ++ commit_text (place, commit.now)) }
+{
+    out.extend_from_slice(b"commit ")?;
+    append_number(place, out)?;
+    append_owner(commit.session.number(), commit.transaction, out)?;
+    append_answers(alloc, commit.answers.as_slice(), out)
+}
+
+fn append_owner(session: u8, transaction: u64, out: &mut Vec<u8>) -> Result<(), AllocError>
+    ensures { OnOk result (out.new.items ≡ out.old.items ++ owner_text session transaction) }
+{
+    out.extend_from_slice(b" session ")?;
+    append_number(session as u64, out)?;
+    out.extend_from_slice(b" transaction ")?;
+    append_number(transaction, out)?;
+    out.extend_from_slice(b"\n")
+}
+
+fn append_answers(alloc: Global, answers: &[Answer], out: &mut Vec<u8>) -> Result<(), AllocError>
+    requires { AreSoundAnswers answers.now }
+    ensures { OnOk result (out.new.items ≡ out.old.items ++ flat_map answer_line answers.now) }
+{
+    for answer in answers {
+        append_answer(alloc, answer, out)?;
+    }
+    Ok(())
+}
+
+fn append_answer(alloc: Global, answer: &Answer, out: &mut Vec<u8>) -> Result<(), AllocError>
+    requires { IsSoundAnswer answer.now }
+    ensures { OnOk result (out.new.items ≡ out.old.items ++ answer_line answer.now) }
+{
+    append_indent(out)?;
+    append_answer_text(alloc, answer, out)?;
+    out.extend_from_slice(b"\n")
+}
+
+fn append_answer_text(alloc: Global, answer: &Answer, out: &mut Vec<u8>) -> Result<(), AllocError>
+    requires { IsSoundAnswer answer.now }
+    ensures { OnOk result (out.new.items ≡ out.old.items ++ answer_text answer.now) }
+{
+    match answer {
+        Answer::Inserted => out.extend_from_slice(b"inserted"),
+        Answer::Duplicate => out.extend_from_slice(b"duplicate"),
+        Answer::Done => out.extend_from_slice(b"done"),
+        Answer::Missing => out.extend_from_slice(b"missing"),
+        Answer::Absent => out.extend_from_slice(b"none"),
+        Answer::Found(shape) => append_found(alloc, shape, out),
+        Answer::Keys(keys) => append_word_and_keys(b"keys", keys.as_slice(), out),
+        Answer::Deleted(keys) => append_word_and_keys(b"deleted", keys.as_slice(), out),
+    }
+}
+
+fn append_found(alloc: Global, shape: &Shape, out: &mut Vec<u8>) -> Result<(), AllocError>
+    requires { IsSound shape.now }
+    ensures { OnOk result (out.new.items ≡ out.old.items ++ answer_text (Answer.Found shape.now)) }
+{
+    out.extend_from_slice(b"shape ")?;
+    write_wkt(alloc, shape, out)
+}
+
+fn append_word_and_keys(word: &[u8], keys: &[u32], out: &mut Vec<u8>) -> Result<(), AllocError>
+    ensures { OnOk result (out.new.items ≡ out.old.items ++ (word.now ++ keys_text keys.now)) }
+{
+    out.extend_from_slice(word)?;
+    append_keys(keys, out)
+}
+
+/// Appends each key after a space.
+fn append_keys(keys: &[u32], out: &mut Vec<u8>) -> Result<(), AllocError>
+    ensures { OnOk result (out.new.items ≡ out.old.items ++ keys_text keys.now) }
+{
+    for key in keys {
+        append_key(*key, out)?;
+    }
+    Ok(())
+}
+
+fn append_key(key: u32, out: &mut Vec<u8>) -> Result<(), AllocError>
+    ensures { OnOk result (out.new.items ≡ out.old.items ++ key_text key) }
+{
+    out.extend_from_slice(b" ")?;
+    append_number(key as u64, out)
+}
+
+fn append_others(others: &[Other], out: &mut Vec<u8>) -> Result<(), AllocError>
+    ensures { OnOk result (out.new.items ≡ out.old.items ++ flat_map other_text others.now) }
+{
+    for other in others {
+        append_other(other, out)?;
+    }
+    Ok(())
+}
+
+fn append_other(other: &Other, out: &mut Vec<u8>) -> Result<(), AllocError>
+    ensures { OnOk result (out.new.items ≡ out.old.items ++ other_text other.now) }
+{
+    out.extend_from_slice(ending_text(other.ending))?;
+    append_owner(other.session.number(), other.transaction, out)
+}
+
+fn ending_text(ending: Ending) -> &'static [u8]
+    ensures { result.now ≡ ending_text ending }
+{
+    match ending {
+        Ending::RolledBack => b"rolled back",
+    }
+}
+
+fn append_rows(alloc: Global, rows: &[(u32, Shape)], out: &mut Vec<u8>) -> Result<(), AllocError>
+    requires { All (λ row. IsSound row.1) rows.now }
+    ensures { OnOk result (out.new.items ≡ out.old.items ++ rows_text rows.now) }
+{
+    append_count(rows.len() as u64, out)?;
+    append_each_row(alloc, rows, out)
+}
+
+fn append_count(count: u64, out: &mut Vec<u8>) -> Result<(), AllocError>
+    ensures { OnOk result (out.new.items ≡ out.old.items ++ count_line count) }
+{
+    out.extend_from_slice(b"rows ")?;
+    append_number(count, out)?;
+    out.extend_from_slice(b"\n")
+}
+
+fn append_each_row(
+    alloc: Global,
+    rows: &[(u32, Shape)],
+    out: &mut Vec<u8>,
+) -> Result<(), AllocError>
+    requires { All (λ row. IsSound row.1) rows.now }
+    ensures { OnOk result (out.new.items ≡ out.old.items ++ flat_map row_line rows.now) }
+{
+    for row in rows {
+        append_row(alloc, row, out)?;
+    }
+    Ok(())
+}
+
+fn append_row(alloc: Global, row: &(u32, Shape), out: &mut Vec<u8>) -> Result<(), AllocError>
+    requires { IsSound row.now.1 }
+    ensures { OnOk result (out.new.items ≡ out.old.items ++ row_line row.now) }
+{
+    append_indent(out)?;
+    append_number(row.0 as u64, out)?;
+    out.extend_from_slice(b" ")?;
+    write_wkt(alloc, &row.1, out)?;
+    out.extend_from_slice(b"\n")
+}
+
+fn append_indent(out: &mut Vec<u8>) -> Result<(), AllocError>
+    ensures { OnOk result (out.new.items ≡ out.old.items ++ codes "  ") }
+{
+    out.extend_from_slice(b"  ")
+}
+
+fn append_number(number: u64, out: &mut Vec<u8>) -> Result<(), AllocError>
+    ensures { OnOk result (out.new.items ≡ out.old.items ++ decimal number) }
+{
+    let mut buffer = Buffer::new();
+    out.extend_from_slice(buffer.format(number).as_bytes())
+}

@@ -1,0 +1,25 @@
+use Rattle.sg_script.proofs.phrases.fields.Goals as goal
+
+pub returns-in-Row-clause-fits : goal.returns-in-Row-clause-fits
+returns-in-Row-clause-fits c = c.row_line.ensures.fits c.args.place c.args.least_session
+
+pub returns-in-Session-clause-fits : goal.returns-in-Session-clause-fits
+returns-in-Session-clause-fits c = c.session_line.ensures.fits c.args.place c.args.least_key
+
+pub returns-in-Insert-clause-fits : goal.returns-in-Insert-clause-fits
+returns-in-Insert-clause-fits c = c.insert_line.ensures.fits c.args.place (record { key = c.args.least_key; session = c.args.least_session })
+
+pub returns-in-Select-clause-fits : goal.returns-in-Select-clause-fits
+returns-in-Select-clause-fits c = c.select_line.ensures.fits c.args.place (record { key = c.args.least_key; session = c.args.least_session })
+
+pub returns-in-Update-clause-fits : goal.returns-in-Update-clause-fits
+returns-in-Update-clause-fits c = c.update_line.ensures.fits c.args.place (record { key = c.args.least_key; session = c.args.least_session })
+
+pub returns-in-Delete-clause-fits : goal.returns-in-Delete-clause-fits
+returns-in-Delete-clause-fits c = c.delete_line.ensures.fits c.args.place (record { key = c.args.least_key; session = c.args.least_session })
+
+pub returns-in-Get-clause-fits : goal.returns-in-Get-clause-fits
+returns-in-Get-clause-fits c = c.get_line.ensures.fits c.args.place (record { key = c.args.least_key; session = c.args.least_session })
+
+pub returns-in-Filter-clause-fits : goal.returns-in-Filter-clause-fits
+returns-in-Filter-clause-fits c = c.filter_line.ensures.fits c.args.place (record { key = c.args.least_key; session = c.args.least_session })

@@ -1,0 +1,9 @@
+use Rattle.std.proofs.Common.{sym, subst}
+use Rattle.sg_script.specs.Plans.{IsOrderOf, Plan, numbers_of}
+use Rattle.sg_script.proofs.scripts.Script.schedule.Goals as goal
+
+pub invariant_of-self : goal.invariant_of-self
+invariant_of-self c = record {
+  rising = c.self.invariant.rising;
+  turns = subst (λ (p : Plan). IsOrderOf (numbers_of p.sessions) c.args.order) (sym c.self.view_is) c.requires;
+}

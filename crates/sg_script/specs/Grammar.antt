@@ -1,0 +1,276 @@
+-- The grammar of a script: what its lines spell, or its first fault, by the number of its line and its kind.
+use Rattle.std.specs.Prelude.{ℕ, ◌+◌, ◌-◌, nat_le, ◌&&◌, if◌then◌else◌, List, [], ◌∷◌, ◌++◌, ℤ, pos, negsuc, neg_ℤ, int_le, Option, Some, None, Result, Ok, Err, codes, bytes_eq}
+use Rattle.sg_shape.specs.declared.shapes.Shape.{Shape}
+use Rattle.sg_shape.specs.declared.matrices.Pred.TheVariants as pred
+use Rattle.sg_wkt.specs.declared.faults.WktFault.{WktFault}
+use Rattle.sg_wkt.specs.Grammar.{shape_in}
+use Rattle.sg_plain.specs.Rows.{keys_of}
+use Rattle.sg_plain.specs.declared.statements.Query.{Query}
+use Rattle.sg_plain.specs.declared.statements.Statement.{Statement}
+use Rattle.sg_plain.specs.declared.statements.Statement.TheVariants as statement
+use Rattle.sg_plain.specs.declared.statements.Test.{Test}
+use Rattle.sg_plain.specs.declared.statements.Test.TheVariants as test
+use Rattle.sg_plain.specs.declared.transactions.End.{End}
+use Rattle.sg_plain.specs.declared.transactions.End.TheVariants as end
+use Rattle.sg_script.specs.declared.faults.ScriptFault.{ScriptFault}
+use Rattle.sg_script.specs.declared.faults.ScriptKind.{ScriptKind}
+use Rattle.sg_script.specs.declared.faults.ScriptKind.TheVariants as kind
+use Rattle.sg_script.specs.declared.words.Line.{Line}
+use Rattle.sg_script.specs.declared.words.Line.TheVariants as line
+use Rattle.sg_script.specs.declared.words.Place.{Place}
+use Rattle.sg_script.specs.declared.words.Place.TheVariants as place
+use Rattle.sg_script.specs.declared.words.Word.{Word}
+use Rattle.sg_script.specs.declared.words.Word.TheVariants as word
+use Rattle.sg_script.specs.Fields.{after_blanks, field, after_field, is_skipped}
+use Rattle.sg_script.specs.Lines.{lines}
+use Rattle.sg_script.specs.Numbers.{number}
+use Rattle.sg_script.specs.Plans.{Plan, above_all, numbers_of, with_transaction}
+use Rattle.sg_script.specs.Words.{word_of}
+
+infixl 10 ◌>>=◌
+abbrev pub ◌>>=◌ : {A B : Type 0} → Result A ScriptKind → (A → Result B ScriptKind) → Result B ScriptKind
+(Ok x) >>= f = f x
+(Err e) >>= f = Err e
+
+-- what the front of a line's text gives, and the text after it
+abbrev pub Reading : Type 0 → Type 0
+Reading X = Result (X × List ℕ) ScriptKind
+
+-- ---- fields
+-- this word, and then the text after it
+unfoldable pub expect : List ℕ → List ℕ → Result (List ℕ) ScriptKind
+expect name text = if bytes_eq (field text) name then Ok (after_field text) else Err kind.Word
+
+-- no further field
+unfoldable pub nothing : List ℕ → Result (Unit {0}) ScriptKind
+nothing text = if bytes_eq (field text) [] then Ok tt else Err kind.Word
+
+abbrev pub natural : ℤ → Option ℕ
+natural (pos n) = Some n
+natural (negsuc n) = None
+
+abbrev pub key_in : ℕ → Option ℕ → Result ℕ ScriptKind
+key_in least (Some n) = if nat_le least n && nat_le n 4294967295 then Ok n else Err kind.Number
+key_in least None = Err kind.Number
+
+abbrev pub key_from : ℕ → Option ℤ → Result ℕ ScriptKind
+key_from least (Some z) = key_in least (natural z)
+key_from least None = Err kind.Number
+
+abbrev pub session_in : ℕ → Option ℕ → Result ℕ ScriptKind
+session_in least (Some n) = if nat_le least n && (nat_le 1 n && nat_le n 64) then Ok n else Err kind.Session
+session_in least None = Err kind.Session
+
+abbrev pub session_from : ℕ → Option ℤ → Result ℕ ScriptKind
+session_from least (Some z) = session_in least (natural z)
+session_from least None = Err kind.Number
+
+abbrev pub priority_from : Option ℤ → Result ℤ ScriptKind
+priority_from (Some z) = if int_le (neg_ℤ (pos 10)) z && int_le z (pos 10) then Ok z else Err kind.Number
+priority_from None = Err kind.Number
+
+-- a row's key, at least this
+unfoldable pub key : ℕ → List ℕ → Reading ℕ
+key least text = do
+  k ← key_from least (number (field text))
+  Ok (k, after_field text)
+
+-- a session's number, at least this
+unfoldable pub session_number : ℕ → List ℕ → Reading ℕ
+session_number least text = do
+  n ← session_from least (number (field text))
+  Ok (n, after_field text)
+
+-- what ends a session's line: nothing, or its priority
+unfoldable pub priority : List ℕ → Result ℤ ScriptKind
+priority text =
+    if bytes_eq (field text) [] then Ok (pos 0) else (do
+      rest ← expect (codes "priority") text
+      z ← priority_from (number (field rest))
+      _ ← nothing (after_field rest)
+      Ok z)
+
+abbrev pub shape_of : Result Shape WktFault → Result Shape ScriptKind
+shape_of (Ok s) = Ok s
+shape_of (Err f) = Err (kind.Shape f)
+
+-- the shape that the rest of the line spells
+unfoldable pub shape : List ℕ → Result Shape ScriptKind
+shape text = shape_of (shape_in (after_blanks text))
+
+-- a test of rows against a shape
+unfoldable pub test_of : List ℕ → Reading Test
+test_of text = if bytes_eq (field text) (codes "intersects") then Ok (test.Relate pred.Intersects, after_field text) else Err kind.Word
+
+-- ---- lines, after their first word
+-- the least key that the next row may have, and the least number that the next session may have
+pub record Least : Type 0 where
+  pub key : ℕ
+  pub session : ℕ
+
+abbrev pub least_of : Plan → Least
+least_of plan = record { key = above_all (keys_of plan.rows); session = above_all (numbers_of plan.sessions) }
+
+-- what a script spells so far: the plan, and the statements of the transaction that is open, if one is
+pub record Draft : Type 0 where
+  pub plan : Plan
+  pub pending : Option (List Statement)
+
+unfoldable pub row_line : ℕ → List ℕ → Result Line ScriptKind
+row_line least text = do
+  k ← key least text
+  s ← shape k.1
+  Ok (line.Row k.0 s)
+
+unfoldable pub session_line : ℕ → List ℕ → Result Line ScriptKind
+session_line least text = do
+  n ← session_number least text
+  p ← priority n.1
+  Ok (line.Session n.0 p)
+
+unfoldable pub bare_line : Line → List ℕ → Result Line ScriptKind
+bare_line l text = do
+  _ ← nothing text
+  Ok l
+
+unfoldable pub insert_line : List ℕ → Result Line ScriptKind
+insert_line text = do
+  k ← key 0 text
+  s ← shape k.1
+  Ok (line.Statement (statement.Insert k.0 s))
+
+unfoldable pub update_line : List ℕ → Result Line ScriptKind
+update_line text = do
+  k ← key 0 text
+  s ← shape k.1
+  Ok (line.Statement (statement.Update k.0 s))
+
+-- a key, and no further field
+unfoldable pub lone_key : List ℕ → Result ℕ ScriptKind
+lone_key text = do
+  k ← key 0 text
+  _ ← nothing k.1
+  Ok k.0
+
+unfoldable pub get_line : List ℕ → Result Line ScriptKind
+get_line text = do
+  k ← lone_key text
+  Ok (line.Statement (statement.Get k))
+
+-- a test, and the shape that rows are tested against
+unfoldable pub query_of : List ℕ → Result Query ScriptKind
+query_of text = do
+  t ← test_of text
+  s ← shape t.1
+  Ok (record { test = t.0; shape = s })
+
+unfoldable pub select_line : List ℕ → Result Line ScriptKind
+select_line text = do
+  q ← query_of text
+  Ok (line.Statement (statement.Select q))
+
+-- `delete where` has a query, and `delete` alone a key
+unfoldable pub delete_line : List ℕ → Result Line ScriptKind
+delete_line text =
+    if bytes_eq (field text) (codes "where") then (do
+      q ← query_of (after_field text)
+      Ok (line.Statement (statement.DeleteWhere q))) else (do
+        k ← lone_key text
+        Ok (line.Statement (statement.Delete k)))
+
+unfoldable pub filter_line : List ℕ → Result Line ScriptKind
+filter_line text = do
+  s ← shape text
+  Ok (line.Statement (statement.Filter s))
+
+abbrev pub fields : Least → Word → List ℕ → Result Line ScriptKind
+fields least word.Row text = row_line least.key text
+fields least word.Session text = session_line least.session text
+fields least word.Begin text = bare_line line.Begin text
+fields least word.Commit text = bare_line (line.End end.Commit) text
+fields least word.Rollback text = bare_line (line.End end.Rollback) text
+fields least word.Insert text = insert_line text
+fields least word.Update text = update_line text
+fields least word.Delete text = delete_line text
+fields least word.Get text = get_line text
+fields least word.Select text = select_line text
+fields least word.Filter text = filter_line text
+
+-- ---- where lines may stand
+abbrev pub place_in : Option (List Statement) → List ℕ → Place
+place_in (Some statements) numbers = place.Open
+place_in None [] = place.Opening
+place_in None (n ∷ numbers) = place.Between
+
+abbrev pub place_of : Draft → Place
+place_of d = place_in d.pending (numbers_of d.plan.sessions)
+
+-- rows come first; each session's transactions follow its line; within one stand its statements, and its end
+abbrev pub stands : Place → Word → Result (Unit {0}) ScriptKind
+stands place.Opening word.Row = Ok tt
+stands place.Opening word.Session = Ok tt
+stands place.Opening w = Err kind.Word
+stands place.Between word.Session = Ok tt
+stands place.Between word.Begin = Ok tt
+stands place.Between w = Err kind.Word
+stands place.Open word.Session = Err kind.NotClosed
+stands place.Open word.Row = Err kind.Word
+stands place.Open word.Begin = Err kind.Word
+stands place.Open w = Ok tt
+
+abbrev pub known : Option Word → Result Word ScriptKind
+known (Some w) = Ok w
+known None = Err kind.Word
+
+-- what a line says: its first word, whether it may stand here, and then its fields from the left
+unfoldable pub line_in : Draft → List ℕ → Result Line ScriptKind
+line_in d text = do
+  w ← known (word_of (field text))
+  _ ← stands (place_of d) w
+  fields (least_of d.plan) w (after_field text)
+
+-- ---- the script
+abbrev pub added : Option (List Statement) → Statement → Option (List Statement)
+added (Some statements) s = Some (statements ++ s ∷ [])
+added None s = None
+
+abbrev pub closed : Option (List Statement) → End → Plan → Plan
+closed (Some statements) e plan = record plan { sessions = with_transaction (record { statements = statements; end = e }) plan.sessions }
+closed None e plan = plan
+
+-- the script with a further line
+abbrev pub with_line : Draft → Line → Draft
+with_line d (line.Row k s) = record d { plan = record d.plan { rows = d.plan.rows ++ (k, s) ∷ [] } }
+with_line d (line.Session n p) = record d {
+  plan = record d.plan { sessions = d.plan.sessions ++ record { session = n; priority = p; transactions = [] } ∷ [] };
+}
+with_line d line.Begin = record d { pending = Some [] }
+with_line d (line.Statement s) = record d { pending = added d.pending s }
+with_line d (line.End e) = record { plan = closed d.pending e d.plan; pending = None }
+
+-- the script with a line that may say nothing
+unfoldable pub step : Draft → List ℕ → Result Draft ScriptKind
+step d text = if is_skipped text then Ok d else (do
+  l ← line_in d text
+  Ok (with_line d l))
+
+abbrev pub closed_at : ℕ → Plan → Option (List Statement) → Result Plan ScriptFault
+closed_at last plan (Some statements) = Err (record { line = last; kind = kind.NotClosed })
+closed_at last plan None = Ok plan
+
+abbrev pub then_read : ℕ → Result Draft ScriptKind → (Draft → Result Plan ScriptFault) → Result Plan ScriptFault
+then_read number (Ok d) rest = rest d
+then_read number (Err k) rest = Err (record { line = number; kind = k })
+
+-- the lines from this number on, after a draft
+abbrev pub read : ℕ → Draft → List (List ℕ) → Result Plan ScriptFault
+-- all is read: no transaction may be open
+read number d [] = closed_at (number - 1) d.plan d.pending
+read number d (l ∷ ls) = then_read number (step d l) (λ more. read (number + 1) more ls)
+
+abbrev pub empty_draft : Draft
+empty_draft = record { plan = record { rows = []; sessions = []; order = [] }; pending = None }
+
+-- what a whole text spells, or its first fault
+unfoldable pub script_in : List ℕ → Result Plan ScriptFault
+script_in text = read 1 empty_draft (lines text)

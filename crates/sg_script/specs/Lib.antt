@@ -1,0 +1,9 @@
+pub mod Lines
+pub mod Fields
+pub mod Numbers
+pub mod Words
+pub mod Plans
+pub mod Grammar
+pub mod Gives
+pub mod Fits
+pub mod Reads

@@ -1,0 +1,21 @@
+//! The script's text: its lines, the fields of a line, and the script that they spell.
+#![tactic(auto)]
+
+mod faults;
+mod fields;
+mod lines;
+mod numbers;
+mod phrases;
+mod readers;
+mod reading;
+mod scripts;
+mod sessions;
+#[cfg(test)]
+mod tests;
+mod texts;
+mod words;
+
+pub use faults::{ReadScript, ScriptFault, ScriptKind};
+pub use reading::read_script;
+pub use scripts::Script;
+pub use sessions::SessionScript;

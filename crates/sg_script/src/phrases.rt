@@ -1,0 +1,170 @@
+ghost use Rattle.std.specs.Prelude.{◌≡◌, ℕ, IfOk};
+ghost use Rattle.sg_script.specs.declared.words.Place.{Place};
+ghost use Rattle.sg_script.specs.Fits.{Fits};
+ghost use Rattle.sg_plain.specs.Sat.{IsSoundQuery};
+ghost use Rattle.sg_script.specs.Gives.{Gives};
+ghost use Rattle.sg_script.specs.Grammar.{Least, bare_line, delete_line, fields, filter_line, get_line, insert_line, lone_key, query_of, row_line, select_line, session_line, stands, update_line};
+
+use crate::faults::{ReadLine, ScriptKind};
+use crate::fields::first_field;
+use crate::texts::{key, nothing, priority, session_number, shape, test_of};
+use crate::words::{Line, Place, Word};
+use sg_plain::{End, Query, Statement};
+use std::alloc::Global;
+
+/// Whether a line with this first word may stand there.
+pub fn stands(place: Place, word: Word) -> Result<(), ReadLine>
+    ensures { Gives (λ _. tt) result (stands place word) }
+{
+    match (place, word) {
+        (Place::Opening, Word::Row | Word::Session) => Ok(()),
+        (Place::Between, Word::Session | Word::Begin) => Ok(()),
+        (Place::Open, Word::Session) => Err(ReadLine::Fault(ScriptKind::NotClosed)),
+        (Place::Open, Word::Row | Word::Begin) => Err(ReadLine::Fault(ScriptKind::Word)),
+        (Place::Open, _) => Ok(()),
+        _ => Err(ReadLine::Fault(ScriptKind::Word)),
+    }
+}
+
+#[tactic(auto, unfolding(crate::specs::Grammar::row_line))]
+fn row_line(alloc: Global, least: u64, text: &[u8]) -> Result<Line, ReadLine>
+    ensures gives { Gives (λ l. l) result (row_line least text.now) }
+    ensures fits { (p : Place) (n : ℕ) → IfOk result (Fits p (record { key = least; session = n })) }
+{
+    let (key, rest) = key(least, text)?;
+    let shape = shape(alloc, rest)?;
+    Ok(Line::Row(key, shape))
+}
+
+#[tactic(auto, unfolding(crate::specs::Grammar::session_line))]
+fn session_line(least: u64, text: &[u8]) -> Result<Line, ReadLine>
+    ensures gives { Gives (λ l. l) result (session_line least text.now) }
+    ensures fits { (p : Place) (n : ℕ) → IfOk result (Fits p (record { key = n; session = least })) }
+{
+    match session_number(least, text) {
+        Ok((session, rest)) => match priority(rest) {
+            Ok(priority) => Ok(Line::Session(session, priority)),
+            Err(fault) => Err(fault),
+        },
+        Err(fault) => Err(fault),
+    }
+}
+
+#[tactic(auto, unfolding(crate::specs::Grammar::bare_line))]
+fn bare_line(line: Line, text: &[u8]) -> Result<Line, ReadLine>
+    ensures gives { Gives (λ l. l) result (bare_line line text.now) }
+    ensures same { IfOk result (λ l. l ≡ line) }
+{
+    nothing(text)?;
+    Ok(line)
+}
+
+#[tactic(auto, unfolding(crate::specs::Grammar::insert_line))]
+fn insert_line(alloc: Global, text: &[u8]) -> Result<Line, ReadLine>
+    ensures gives { Gives (λ l. l) result (insert_line text.now) }
+    ensures fits { (p : Place) (least : Least) → IfOk result (Fits p least) }
+{
+    let (key, rest) = key(0, text)?;
+    let shape = shape(alloc, rest)?;
+    Ok(Line::Statement(Statement::Insert(key, shape)))
+}
+
+#[tactic(auto, unfolding(crate::specs::Grammar::update_line))]
+fn update_line(alloc: Global, text: &[u8]) -> Result<Line, ReadLine>
+    ensures gives { Gives (λ l. l) result (update_line text.now) }
+    ensures fits { (p : Place) (least : Least) → IfOk result (Fits p least) }
+{
+    let (key, rest) = key(0, text)?;
+    let shape = shape(alloc, rest)?;
+    Ok(Line::Statement(Statement::Update(key, shape)))
+}
+
+/// A key, and no further field.
+#[tactic(auto, unfolding(crate::specs::Grammar::lone_key))]
+fn lone_key(text: &[u8]) -> Result<u32, ReadLine>
+    ensures { Gives (λ k. k) result (lone_key text.now) }
+{
+    let (key, rest) = key(0, text)?;
+    nothing(rest)?;
+    Ok(key)
+}
+
+#[tactic(auto, unfolding(crate::specs::Grammar::get_line))]
+fn get_line(text: &[u8]) -> Result<Line, ReadLine>
+    ensures gives { Gives (λ l. l) result (get_line text.now) }
+    ensures fits { (p : Place) (least : Least) → IfOk result (Fits p least) }
+{
+    let key = lone_key(text)?;
+    Ok(Line::Statement(Statement::Get(key)))
+}
+
+/// A test, and the shape that rows are tested against.
+#[tactic(auto, unfolding(crate::specs::Grammar::query_of))]
+fn query_of(alloc: Global, text: &[u8]) -> Result<Query, ReadLine>
+    ensures gives { Gives (λ q. q) result (query_of text.now) }
+    ensures sound { IfOk result IsSoundQuery }
+{
+    let (test, rest) = test_of(text)?;
+    let shape = shape(alloc, rest)?;
+    Ok(Query { test, shape })
+}
+
+#[tactic(auto, unfolding(crate::specs::Grammar::select_line))]
+fn select_line(alloc: Global, text: &[u8]) -> Result<Line, ReadLine>
+    ensures gives { Gives (λ l. l) result (select_line text.now) }
+    ensures fits { (p : Place) (least : Least) → IfOk result (Fits p least) }
+{
+    let query = query_of(alloc, text)?;
+    Ok(Line::Statement(Statement::Select(query)))
+}
+
+#[tactic(auto, unfolding(crate::specs::Grammar::delete_line))]
+fn delete_line(alloc: Global, text: &[u8]) -> Result<Line, ReadLine>
+    ensures gives { Gives (λ l. l) result (delete_line text.now) }
+    ensures fits { (p : Place) (least : Least) → IfOk result (Fits p least) }
+{
+    let (field, rest) = first_field(text);
+    if field == b"where".as_slice() {
+        let query = query_of(alloc, rest)?;
+        return Ok(Line::Statement(Statement::DeleteWhere(query)));
+    }
+    let key = lone_key(text)?;
+    Ok(Line::Statement(Statement::Delete(key)))
+}
+
+#[tactic(auto, unfolding(crate::specs::Grammar::filter_line))]
+fn filter_line(alloc: Global, text: &[u8]) -> Result<Line, ReadLine>
+    ensures gives { Gives (λ l. l) result (filter_line text.now) }
+    ensures fits { (p : Place) (least : Least) → IfOk result (Fits p least) }
+{
+    let shape = shape(alloc, text)?;
+    Ok(Line::Statement(Statement::Filter(shape)))
+}
+
+/// The rest of a line with this first word, which may stand there.
+pub fn fields(
+    alloc: Global,
+    place: Place,
+    least_key: u64,
+    least_session: u64,
+    word: Word,
+    text: &[u8],
+) -> Result<Line, ReadLine>
+    requires { stands place word ≡ Ok tt }
+    ensures gives { Gives (λ l. l) result (fields (record { key = least_key; session = least_session }) word text.now) }
+    ensures fits { IfOk result (Fits place (record { key = least_key; session = least_session })) }
+{
+    match word {
+        Word::Row => row_line(alloc, least_key, text),
+        Word::Session => session_line(least_session, text),
+        Word::Begin => bare_line(Line::Begin, text),
+        Word::Commit => bare_line(Line::End(End::Commit), text),
+        Word::Rollback => bare_line(Line::End(End::Rollback), text),
+        Word::Insert => insert_line(alloc, text),
+        Word::Update => update_line(alloc, text),
+        Word::Delete => delete_line(alloc, text),
+        Word::Get => get_line(text),
+        Word::Select => select_line(alloc, text),
+        Word::Filter => filter_line(alloc, text),
+    }
+}

@@ -1,0 +1,153 @@
+ghost use Rattle.std.specs.Prelude.{◌≡◌, ◌≢◌, ◌≤◌, [], ◌∷◌, ◌++◌, option_map, OnOk, OnErr, IfErr};
+ghost use Rattle.std.specs.Option.{option_copied};
+ghost use Rattle.sg_shape.specs.Sound.{IsSound};
+ghost use Rattle.sg_plain.specs.Keys.{IsRising};
+ghost use Rattle.sg_plain.specs.Rows.{keys_of};
+ghost use Rattle.sg_script.specs.Plans.{IsOrderOf, above_all, numbers_of, session_at, transaction_at, with_transaction};
+
+use crate::sessions::SessionScript;
+use sg_modes::{Schedule, Session};
+use sg_plain::{PlainRows, Transaction};
+use sg_shape::{Back, Items, Shape};
+use std::alloc::{AllocError, Global};
+use std::marker::Model;
+
+/// The opening rows, the sessions by rising number, and the order of their turns.
+#[derive(Debug, Drop)]
+pub struct Script {
+    rows: PlainRows,
+    sessions: Vec<SessionScript>,
+    order: Schedule,
+}
+
+impl Model for Script {
+    ghost use Rattle.sg_script.specs.Plans.{IsPlan, Plan};
+
+    ghost Value = { Plan };
+
+    ghost view = { λ script. record { rows = script.rows; sessions = script.sessions.items; order = script.order } };
+
+    ghost invariant = { λ script. IsPlan script.sessions.items script.order };
+}
+
+impl Script {
+    /// A script with these opening rows and no sessions. It takes no memory, and keeps the allocator for
+    /// its own growth.
+    pub fn new(alloc: Global, rows: PlainRows) -> Script
+        ensures rows { result.rows ≡ rows }
+        ensures sessions { result.sessions ≡ [] }
+        ensures order { result.order ≡ [] }
+    {
+        Script {
+            rows,
+            sessions: Vec::new(alloc),
+            order: Schedule::new(alloc),
+        }
+    }
+
+    /// The opening rows.
+    pub fn rows(&self) -> &PlainRows
+        ensures { result.now ≡ self.now.rows }
+    {
+        &self.rows
+    }
+
+    /// The sessions, by rising number.
+    pub fn sessions(&self) -> &[SessionScript]
+        ensures all { result.now ≡ self.now.sessions }
+        ensures rising { IsRising (numbers_of self.now.sessions) }
+    {
+        self.sessions.as_slice()
+    }
+
+    /// The sessions whose turns come one after another. It is empty where no order was set.
+    pub fn order(&self) -> &Schedule
+        ensures { result.now ≡ self.now.order }
+    {
+        &self.order
+    }
+
+    /// The priority of a session: `None` exactly where it isn't in the script.
+    pub fn priority_of(&self, session: Session) -> Option<i8>
+        ensures { result ≡ option_map (λ s. s.priority) (session_at self.now.sessions session) }
+    {
+        find(self.sessions(), session).map(|found| found.priority)
+    }
+
+    /// A session's transaction at a place, counted from 0: `None` exactly where the session isn't in the
+    /// script, or past its last transaction.
+    pub fn transaction_of(&self, session: Session, place: usize) -> Option<&Transaction>
+        ensures { option_copied result ≡ transaction_at self.now.sessions session place }
+    {
+        match find(self.sessions(), session) {
+            Some(found) => found.transactions.at(place),
+            None => None,
+        }
+    }
+
+    /// Sets the order of turns, which have to be of sessions of the script.
+    pub fn schedule(&mut self, order: Schedule)
+        requires { IsOrderOf (numbers_of self.old.sessions) order }
+        ensures { self.new ≡ record self.old { order = order } }
+    {
+        self.order = order;
+    }
+
+    /// Puts an opening row last, whose key has to be above all others. Without memory for it the script stays
+    /// as it was, and the shape is given up.
+    pub(crate) fn row(&mut self, key: u32, shape: Shape) -> Result<(), AllocError>
+        requires above { above_all (keys_of self.old.rows) ≤ key }
+        requires sound { IsSound shape }
+        ensures ok { OnOk result (self.new ≡ record self.old { rows = self.old.rows ++ (key, shape) ∷ [] }) }
+        ensures err { OnErr result (self.new ≡ self.old) }
+    {
+        let _rising = self.rows.as_slice();
+        self.rows.push(key, shape)
+    }
+
+    /// Adds a session without transactions, whose number has to be above all others. Without memory for it
+    /// the script stays as it was.
+    pub fn session(
+        &mut self,
+        alloc: Global,
+        session: Session,
+        priority: i8,
+    ) -> Result<(), AllocError>
+        requires { above_all (numbers_of self.old.sessions) ≤ session }
+        ensures ok { OnOk result (self.new ≡ record self.old {
+          sessions = self.old.sessions ++ record { session = session; priority = priority; transactions = [] } ∷ [];
+        }) }
+        ensures err { OnErr result (self.new ≡ self.old) }
+    {
+        self.sessions.push(SessionScript {
+            session,
+            priority,
+            transactions: Items::new(alloc),
+        })?;
+        Ok(())
+    }
+
+    /// Adds a transaction to the last session, which has to be there. Without memory for it the script stays
+    /// as it was, and the transaction comes back.
+    pub fn transaction(&mut self, transaction: Transaction) -> Result<(), Back<Transaction>>
+        requires { self.old.sessions ≢ [] }
+        ensures ok { OnOk result (self.new ≡ record self.old { sessions = with_transaction transaction self.old.sessions }) }
+        ensures err { OnErr result (self.new ≡ self.old) }
+        ensures back { IfErr result (λ back. back.item ≡ transaction) }
+    {
+        let last = self.sessions.as_slice().len() - 1;
+        self.sessions[last].transactions.push(transaction)
+    }
+}
+
+/// The session of that number.
+fn find(sessions: &[SessionScript], session: Session) -> Option<&SessionScript>
+    ensures { option_copied result ≡ session_at sessions.now session }
+{
+    for found in sessions {
+        if found.session == session {
+            return Some(found);
+        }
+    }
+    None
+}
