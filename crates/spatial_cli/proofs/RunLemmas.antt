@@ -1,0 +1,27 @@
+-- All sessions of a script were played.
+use Rattle.std.proofs.Common.{◌≡◌, ℕ, ◌≤◌, List, length, take, take_all, flat_map, ap, ◌∙◌, subst}
+use Rattle.sg_plain.specs.Keys.{IsRising}
+use Rattle.sg_report.specs.declared.reports.Report.{Report}
+use Rattle.sg_script.specs.declared.sessions.SessionScript.{SessionScript}
+use Rattle.sg_script.specs.Plans.{Plan, numbers_of}
+use Rattle.spatial_cli.specs.Plays.{IsRun, Numbered, Played, numbered, numbered_session}
+use Rattle.spatial_cli.proofs.OrderLemmas.{script_order}
+
+run_of : (plan : Plan) (report : Report) → IsRising (numbers_of plan.sessions) → Played plan.rows (numbered plan) report → IsRun plan report
+run_of plan report rising played = record {
+  journal = played.journal;
+  serial = played.serial;
+  order = script_order plan played.journal rising played.executed;
+  all = played.executed;
+  commits = played.commits;
+  others = played.others;
+}
+
+all_played : (plan : Plan) (sessions : List SessionScript) (i : ℕ) (report : Report) → sessions ≡ plan.sessions → length sessions ≤ i →
+    Played plan.rows (flat_map numbered_session (take i sessions)) report → Played plan.rows (numbered plan) report
+all_played plan sessions i report all h played =
+    subst (λ (ts : List Numbered). Played plan.rows ts report) (ap (flat_map numbered_session) (take_all i sessions h ∙ all)) played
+
+pub finished : (plan : Plan) (sessions : List SessionScript) (i : ℕ) (report : Report) → sessions ≡ plan.sessions → length sessions ≤ i →
+    IsRising (numbers_of plan.sessions) → Played plan.rows (flat_map numbered_session (take i sessions)) report → IsRun plan report
+finished plan sessions i report all h rising played = run_of plan report rising (all_played plan sessions i report all h played)

@@ -1,0 +1,40 @@
+-- How the program ends: its status, its number, and what it says of it.
+use Rattle.std.specs.Prelude.{ℕ, List, [], ◌∷◌, ◌++◌, codes}
+use Rattle.spatial_cli.specs.declared.status.Ending.{Ending}
+use Rattle.spatial_cli.specs.declared.status.Ending.TheVariants as ending
+use Rattle.spatial_cli.specs.declared.status.Status.{Status}
+use Rattle.spatial_cli.specs.declared.status.Status.TheVariants.{Done, Usage, Script, ReadFault, WriteFault, OutOfMemory}
+
+abbrev pub number_of : Status → ℕ
+number_of Done = 0
+number_of Usage = 1
+number_of Script = 2
+number_of ReadFault = 3
+number_of WriteFault = 4
+number_of OutOfMemory = 5
+
+-- a script that is refused, and one that is too long, have one status
+abbrev pub status_of : Ending → Status
+status_of ending.Done = Done
+status_of ending.Usage = Usage
+status_of ending.Refused = Script
+status_of ending.TooLong = Script
+status_of ending.ReadFault = ReadFault
+status_of ending.WriteFault = WriteFault
+status_of ending.OutOfMemory = OutOfMemory
+
+-- each message is a line
+abbrev pub line_of : List ℕ → List ℕ
+line_of text = text ++ 10 ∷ []
+
+abbrev pub usage : List ℕ
+usage = line_of (codes "usage: spatial_cli replay [--workers N] [--labels] | threads [--workers N] [--labels] [--trace] | make SEED ROWS SESSIONS")
+
+abbrev pub message_of : Ending → List ℕ
+message_of ending.Done = []
+message_of ending.Usage = usage
+message_of ending.Refused = line_of (codes "script refused")
+message_of ending.TooLong = line_of (codes "script too long")
+message_of ending.ReadFault = line_of (codes "read fault")
+message_of ending.WriteFault = line_of (codes "write fault")
+message_of ending.OutOfMemory = line_of (codes "out of memory")

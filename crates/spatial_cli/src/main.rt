@@ -1,0 +1,49 @@
+//! The program: a script of transactions on a table of shapes, played and printed.
+#![tactic(auto)]
+
+mod player;
+mod points;
+mod program;
+mod status;
+#[cfg(test)]
+mod tests;
+mod words;
+
+pub use program::{replay_main, spatial_main};
+use sg_io::{StdSink, StdSource};
+pub use status::Status;
+use std::alloc::AllocError;
+use std::env;
+use std::io::ErrorKind;
+use std::process::ExitCode;
+pub use words::Words;
+
+fn main(rt: HostRuntime) -> ExitCode {
+    let Ok(words) = words_of(&rt) else {
+        return ExitCode::from(Status::OutOfMemory.number());
+    };
+    let mut source = StdSource::new(rt.stdin());
+    let mut out = StdSink::new(rt.stdout());
+    let mut err = StdSink::new(rt.stderr());
+    let status = spatial_main(rt.alloc(), &words, &mut source, &mut out, &mut err);
+    ExitCode::from(status.number())
+}
+
+/// The words after the program's name. Where one isn't UTF-8 there is one empty word, which has no form.
+fn words_of(rt: &HostRuntime) -> Result<Words, AllocError> {
+    let mut words = Words::new(rt.alloc());
+    match env::args(rt) {
+        Ok(args) => {
+            for word in args.skip(1) {
+                words.push(word.into_bytes()).map_err(|_| AllocError)?;
+            }
+        }
+        Err(error) => {
+            if error.kind() == ErrorKind::OutOfMemory {
+                return Err(AllocError);
+            }
+            words.push(Vec::new(rt.alloc())).map_err(|_| AllocError)?;
+        }
+    }
+    Ok(words)
+}

@@ -1,0 +1,172 @@
+ghost use Rattle.std.specs.Prelude.{◌≡◌, ◌≢◌, ◌⊎◌, ◌↔◌, ◌≤◌, Some, None, Err, length, IfOk, IsErrOf};
+ghost use Rattle.sg_script.specs.declared.faults.ScriptFault.{ScriptFault};
+ghost use Rattle.sg_script.specs.Grammar.{script_in};
+ghost use Rattle.sg_io.specs.Causes.{Rose};
+ghost use Rattle.spatial_cli.specs.Runs.{HoldsNone, HoldsScript, IsCut, IsRefused, IsReplay, IsTextOf, IsTooLong, Told};
+ghost use Rattle.spatial_cli.specs.declared.status.Ending.{Ending};
+ghost use Rattle.spatial_cli.specs.Statuses.{message_of, status_of};
+ghost use Rattle.spatial_cli.specs.Words.{form_of};
+
+use crate::player::play;
+use crate::points::PointJudge;
+use crate::status::{Ending, Status};
+use crate::words::{Form, Words};
+use sg_io::{ReadEnd, Sink, Source, read_all, write_all};
+use sg_report::report;
+use sg_script::{ReadScript, read_script};
+use std::alloc::{AllocError, Global};
+
+/// Does what the words ask for: for now `replay` alone has a form.
+pub fn spatial_main<S: Source, K: Sink, E: Sink>(
+    alloc: Global,
+    words: &Words,
+    source: &mut S,
+    out: &mut K,
+    err: &mut E,
+) -> Status
+    // The headline.
+    ensures done { result ≡ Status.Done → IsReplay (S.left source.old) (S.left source.new) (K.taken out.old) (K.taken out.new) }
+
+    // When each other status comes.
+    ensures usage { (result ≡ Status.Usage) ↔ (form_of words.now ≡ None) }
+    ensures script { result ≡ Status.Script
+        → (IsRefused (S.left source.old) (S.left source.new) × Told (E.faults err.old) (E.faults err.new) (E.taken err.old) (E.taken err.new) (message_of Ending.Refused))
+        ⊎ (IsTooLong (S.left source.old) (S.left source.new) × Told (E.faults err.old) (E.faults err.new) (E.taken err.old) (E.taken err.new) (message_of Ending.TooLong)) }
+    ensures read { result ≡ Status.ReadFault → Rose (S.faults source.old) (S.faults source.new) }
+    ensures write { result ≡ Status.WriteFault → Rose (K.faults out.old) (K.faults out.new) }
+
+    // What out and err have taken then.
+    ensures cut { result ≡ Status.WriteFault → IsCut (S.left source.old) (S.left source.new) (K.taken out.old) (K.taken out.new) }
+    ensures nothing { result ≢ Status.Done → result ≢ Status.WriteFault → K.taken out.new ≡ K.taken out.old }
+    ensures told { (e : Ending) → result ≡ status_of e → result ≢ Status.Script
+        → Told (E.faults err.old) (E.faults err.new) (E.taken err.old) (E.taken err.new) (message_of e) }
+
+    // Words of the form and a script give the whole text, and other bytes are refused, unless there is no memory.
+    ensures complete { form_of words.now ≡ Some Form.Replay → HoldsScript (S.left source.old)
+        → ¬ Rose (S.faults source.old) (S.faults source.new) → ¬ Rose (K.faults out.old) (K.faults out.new)
+        → (result ≡ Status.Done) ⊎ (result ≡ Status.OutOfMemory) }
+    ensures refuses { form_of words.now ≡ Some Form.Replay → HoldsNone (S.left source.old)
+        → ¬ Rose (S.faults source.old) (S.faults source.new) → (result ≡ Status.Script) ⊎ (result ≡ Status.OutOfMemory) }
+{
+    replay_main(alloc, words, source, out, err)
+}
+
+/// Reads a script, plays it, and prints what came of it: the commits with their answers, the other transactions,
+/// and the rows that are left. What went wrong is told on `err`; a failure there changes nothing.
+pub fn replay_main<S: Source, K: Sink, E: Sink>(
+    alloc: Global,
+    words: &Words,
+    source: &mut S,
+    out: &mut K,
+    err: &mut E,
+) -> Status
+    // The headline.
+    ensures done { result ≡ Status.Done → IsReplay (S.left source.old) (S.left source.new) (K.taken out.old) (K.taken out.new) }
+
+    // When each other status comes.
+    ensures usage { (result ≡ Status.Usage) ↔ (form_of words.now ≡ None) }
+    ensures script { result ≡ Status.Script
+        → (IsRefused (S.left source.old) (S.left source.new) × Told (E.faults err.old) (E.faults err.new) (E.taken err.old) (E.taken err.new) (message_of Ending.Refused))
+        ⊎ (IsTooLong (S.left source.old) (S.left source.new) × Told (E.faults err.old) (E.faults err.new) (E.taken err.old) (E.taken err.new) (message_of Ending.TooLong)) }
+    ensures read { result ≡ Status.ReadFault → Rose (S.faults source.old) (S.faults source.new) }
+    ensures write { result ≡ Status.WriteFault → Rose (K.faults out.old) (K.faults out.new) }
+
+    // What out and err have taken then.
+    ensures cut { result ≡ Status.WriteFault → IsCut (S.left source.old) (S.left source.new) (K.taken out.old) (K.taken out.new) }
+    ensures nothing { result ≢ Status.Done → result ≢ Status.WriteFault → K.taken out.new ≡ K.taken out.old }
+    ensures told { (e : Ending) → result ≡ status_of e → result ≢ Status.Script
+        → Told (E.faults err.old) (E.faults err.new) (E.taken err.old) (E.taken err.new) (message_of e) }
+
+    // Words of the form and a script give the whole text, and other bytes are refused, unless there is no memory.
+    ensures complete { form_of words.now ≡ Some Form.Replay → HoldsScript (S.left source.old)
+        → ¬ Rose (S.faults source.old) (S.faults source.new) → ¬ Rose (K.faults out.old) (K.faults out.new)
+        → (result ≡ Status.Done) ⊎ (result ≡ Status.OutOfMemory) }
+    ensures refuses { form_of words.now ≡ Some Form.Replay → HoldsNone (S.left source.old)
+        → ¬ Rose (S.faults source.old) (S.faults source.new) → (result ≡ Status.Script) ⊎ (result ≡ Status.OutOfMemory) }
+{
+    let end = replay(alloc, words, source, out);
+    tell(err, end.message());
+    end.status()
+}
+
+fn tell<E: Sink>(err: &mut E, message: &[u8])
+    ensures { Told (E.faults err.old) (E.faults err.new) (E.taken err.old) (E.taken err.new) message.now }
+{
+    match write_all(err, message) {
+        Ok(()) => {}
+        Err(_) => {}
+    }
+}
+
+fn replay<S: Source, K: Sink>(alloc: Global, words: &Words, source: &mut S, out: &mut K) -> Ending
+    ensures done { result ≡ Ending.Done → IsReplay (S.left source.old) (S.left source.new) (K.taken out.old) (K.taken out.new) }
+    ensures usage { (result ≡ Ending.Usage) ↔ (form_of words.now ≡ None) }
+    ensures refused { result ≡ Ending.Refused → IsRefused (S.left source.old) (S.left source.new) }
+    ensures too_long { result ≡ Ending.TooLong → IsTooLong (S.left source.old) (S.left source.new) }
+    ensures read { result ≡ Ending.ReadFault → Rose (S.faults source.old) (S.faults source.new) }
+    ensures write { result ≡ Ending.WriteFault → Rose (K.faults out.old) (K.faults out.new) }
+    ensures cut { result ≡ Ending.WriteFault → IsCut (S.left source.old) (S.left source.new) (K.taken out.old) (K.taken out.new) }
+    ensures nothing { result ≢ Ending.Done → result ≢ Ending.WriteFault → K.taken out.new ≡ K.taken out.old }
+{
+    match words.form() {
+        None => Ending::Usage,
+        Some(Form::Replay) => replay_all(alloc, source, out),
+    }
+}
+
+/// Replays the script that is left of the source.
+fn replay_all<S: Source, K: Sink>(alloc: Global, source: &mut S, out: &mut K) -> Ending
+    ensures done { result ≡ Ending.Done → IsReplay (S.left source.old) (S.left source.new) (K.taken out.old) (K.taken out.new) }
+    ensures usage { result ≢ Ending.Usage }
+    ensures refused { result ≡ Ending.Refused → IsRefused (S.left source.old) (S.left source.new) }
+    ensures too_long { result ≡ Ending.TooLong → IsTooLong (S.left source.old) (S.left source.new) }
+    ensures read { result ≡ Ending.ReadFault → Rose (S.faults source.old) (S.faults source.new) }
+    ensures write { result ≡ Ending.WriteFault → Rose (K.faults out.old) (K.faults out.new) }
+    ensures cut { result ≡ Ending.WriteFault → IsCut (S.left source.old) (S.left source.new) (K.taken out.old) (K.taken out.new) }
+    ensures nothing { result ≢ Ending.Done → result ≢ Ending.WriteFault → K.taken out.new ≡ K.taken out.old }
+{
+    let bytes = match read_all(alloc, source) {
+        Ok(bytes) => bytes,
+        Err(ReadEnd::Fault) => return Ending::ReadFault,
+        Err(ReadEnd::TooLong) => return Ending::TooLong,
+        Err(ReadEnd::OutOfMemory) => return Ending::OutOfMemory,
+    };
+    let text = match replayed(alloc, bytes.as_slice()) {
+        Ok(text) => text,
+        Err(Unplayed::Refused) => return Ending::Refused,
+        Err(Unplayed::OutOfMemory) => return Ending::OutOfMemory,
+    };
+    match write_all(out, text.as_slice()) {
+        Ok(()) => Ending::Done,
+        Err(_) => Ending::WriteFault,
+    }
+}
+
+/// Why there is no text of a run.
+#[derive(Clone, Copy, Debug, PartialEq, Eq)]
+enum Unplayed {
+    /// The bytes are no script.
+    Refused,
+    OutOfMemory,
+}
+
+/// The text of a run of the script that the bytes spell.
+fn replayed(alloc: Global, bytes: &[u8]) -> Result<Vec<u8>, Unplayed>
+    requires { length bytes.now ≤ 67108864 }
+    ensures text { IfOk result (λ text. IsTextOf bytes.now text.items) }
+    ensures refused { IsErrOf result Unplayed.Refused → (fault : ScriptFault) × (script_in bytes.now ≡ Err fault) }
+{
+    let script = match read_script(alloc, bytes) {
+        Ok(script) => script,
+        Err(ReadScript::Fault(_)) => return Err(Unplayed::Refused),
+        Err(ReadScript::OutOfMemory) => return Err(Unplayed::OutOfMemory),
+    };
+    let run = match play(alloc, &PointJudge, &script) {
+        Ok(run) => run,
+        Err(AllocError) => return Err(Unplayed::OutOfMemory),
+    };
+    match report(alloc, &run) {
+        Ok(text) => Ok(text),
+        Err(AllocError) => Err(Unplayed::OutOfMemory),
+    }
+}
