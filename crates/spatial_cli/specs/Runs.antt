@@ -42,6 +42,7 @@ pub record IsCut (before after old new : Option (List ℕ)) : Type 0 where
   pub given : Gave before after bytes
   pub script : script_in bytes ≡ Ok plan
   pub run : IsRun plan report
+  pub short : sent < length (report_text report)
   pub printed : Appends old new (take sent (report_text report))
 
 -- The source gave bytes to its end that are no script.

@@ -38,6 +38,7 @@ pub fn spatial_main<S: Source, K: Sink, E: Sink>(
     // What out and err have taken then.
     ensures cut { result ≡ Status.WriteFault → IsCut (S.left source.old) (S.left source.new) (K.taken out.old) (K.taken out.new) }
     ensures nothing { result ≢ Status.Done → result ≢ Status.WriteFault → K.taken out.new ≡ K.taken out.old }
+    ensures unread { result ≡ Status.Usage → S.left source.new ≡ S.left source.old }
     ensures told { (e : Ending) → result ≡ status_of e → result ≢ Status.Script
         → Told (E.faults err.old) (E.faults err.new) (E.taken err.old) (E.taken err.new) (message_of e) }
 
@@ -74,6 +75,7 @@ pub fn replay_main<S: Source, K: Sink, E: Sink>(
     // What out and err have taken then.
     ensures cut { result ≡ Status.WriteFault → IsCut (S.left source.old) (S.left source.new) (K.taken out.old) (K.taken out.new) }
     ensures nothing { result ≢ Status.Done → result ≢ Status.WriteFault → K.taken out.new ≡ K.taken out.old }
+    ensures unread { result ≡ Status.Usage → S.left source.new ≡ S.left source.old }
     ensures told { (e : Ending) → result ≡ status_of e → result ≢ Status.Script
         → Told (E.faults err.old) (E.faults err.new) (E.taken err.old) (E.taken err.new) (message_of e) }
 
@@ -107,6 +109,7 @@ fn replay<S: Source, K: Sink>(alloc: Global, words: &Words, source: &mut S, out:
     ensures write { result ≡ Ending.WriteFault → Rose (K.faults out.old) (K.faults out.new) }
     ensures cut { result ≡ Ending.WriteFault → IsCut (S.left source.old) (S.left source.new) (K.taken out.old) (K.taken out.new) }
     ensures nothing { result ≢ Ending.Done → result ≢ Ending.WriteFault → K.taken out.new ≡ K.taken out.old }
+    ensures unread { result ≡ Ending.Usage → S.left source.new ≡ S.left source.old }
 {
     match words.form() {
         None => Ending::Usage,

@@ -159,6 +159,8 @@ fn tells_usage(rt: HostRuntime) -> Result<(), Fail> {
     let mut twice = replay(alloc)?;
     assert!(rt; twice.push(Vec::from_slice(alloc, b"replay")?).is_ok());
     assert_eq!(rt; twice.len(), 2);
+    assert!(rt; twice.at(1) == Some(b"replay".as_slice()));
+    assert!(rt; twice.at(2).is_none());
     let status = replay_main(alloc, &twice, &mut first, &mut out, &mut err);
     assert_eq!(rt; status, Status::Usage);
     assert!(rt; out.taken().is_empty());

@@ -1,4 +1,5 @@
 ghost use Rattle.std.specs.Prelude.{◌≡◌, [], ◌∷◌, ◌++◌, length, slice_get, map, OnOk, OnErr, IfErr};
+ghost use Rattle.std.specs.Option.{option_copied};
 ghost use Rattle.spatial_cli.specs.Words.{form_of};
 
 use sg_shape::Back;
@@ -53,6 +54,16 @@ impl Words {
         ensures { result ≡ length self.now }
     {
         self.words.as_slice().len()
+    }
+
+    /// The word at a place, counted from 0: `None` exactly past the end.
+    pub fn at(&self, place: usize) -> Option<&[u8]>
+        ensures { option_copied result ≡ slice_get self.now place }
+    {
+        match self.words.as_slice().get(place) {
+            Some(word) => Some(word.as_slice()),
+            None => None,
+        }
     }
 
     /// What the words ask for: `None` where they have no form.
