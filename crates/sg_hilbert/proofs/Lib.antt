@@ -1,0 +1,4 @@
+pub mod Sides
+pub mod Undo
+pub mod Neighbours
+pub mod Examples

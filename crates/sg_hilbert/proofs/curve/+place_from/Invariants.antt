@@ -1,0 +1,4 @@
+use Rattle.sg_hilbert.proofs.curve.+place_from.Given as goal
+
+abbrev pub decreases-place_from : goal.decreases-place_from
+decreases-place_from l = l.k
