@@ -1,6 +1,6 @@
 -- Worked texts of reports.
 use Rattle.std.proofs.Common.{◌≡◌, ℕ, List, [], ◌∷◌, ◌++◌, pos, negsuc, refl, codes}
-use Rattle.std.specs.Fmt.{decimal, digits}
+use Rattle.std.specs.Fmt.{digits}
 use Rattle.sg_shape.specs.declared.shapes.Kind.TheVariants as kind
 use Rattle.sg_shape.specs.declared.shapes.Shape.TheVariants as shapes
 use Rattle.sg_plain.specs.declared.statements.Answer.TheVariants.{Inserted, Duplicate, Done, Missing, Absent, Found, Keys, Deleted}

@@ -1,4 +1,5 @@
 pub mod Examples
+pub mod Fits
 pub mod Places
 pub mod Splits
 pub mod Pieces

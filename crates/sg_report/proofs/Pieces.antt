@@ -1,19 +1,18 @@
 -- The pieces of a report's text: where one ends, and what it tells.
-use Rattle.std.proofs.Common.{◌≡◌, ℕ, zero, suc, ◌+◌, ◌*◌, ◌^◌, ◌<◌, Bool, true, false, ◌&&◌, ◌==◌, List, [], ◌∷◌, ◌++◌, length, get_or, codes, refl, arith, sym, ap, ◌∙◌, IsTrue}
+use Rattle.std.proofs.Common.{◌≡◌, ℕ, suc, ◌+◌, ◌*◌, ◌^◌, ◌<◌, true, false, ◌==◌, List, [], ◌∷◌, ◌++◌, length, get_or, codes, refl, arith, sym, ap, ◌∙◌}
 use Rattle.std.specs.Prelude.{All}
-use Rattle.std.proofs.lemmas.List.{append_assoc, append-nil, append_cancel_left}
+use Rattle.std.proofs.lemmas.List.{append_assoc, append_cancel_left}
 use Rattle.std.proofs.lemmas.List.Folds.{list_all-append}
 use Rattle.std.proofs.lemmas.Bool.Decides.{nat_tests}
 use Rattle.std.specs.Char.{is_ascii_digit}
 use Rattle.std.specs.Fmt.{decimal}
-use Rattle.std.specs.List.{flat_map, list_all}
+use Rattle.std.specs.List.{list_all}
 use Rattle.sg_shape.specs.declared.shapes.Shape.{Shape}
-use Rattle.sg_shape.specs.Sound.{IsSound}
 use Rattle.sg_plain.specs.declared.statements.Answer.{Answer}
 use Rattle.sg_plain.specs.declared.statements.Answer.TheVariants.{Inserted, Duplicate, Done, Missing, Absent, Found, Keys, Deleted}
 use Rattle.sg_wkt.specs.Canonical.{canonical}
 use Rattle.sg_wkt.specs.Laws.{TellsApart, IsPrintable, is_printable}
-use Rattle.sg_report.specs.Texts.{key_text, keys_text, answer_text, answer_line, owner_text, count_line, row_line}
+use Rattle.sg_report.specs.Texts.{keys_text, answer_text, answer_line, owner_text, row_line}
 use Rattle.sg_report.specs.Laws.{AreKeys, IsAnswer, IsRow}
 use Rattle.sg_report.proofs.Splits.{Stops, both, split, list_all-wider, all_digits, split_number}
 

@@ -5,7 +5,6 @@ use Rattle.std.proofs.lemmas.List.{append_assoc, append-nil, append_cancel_left}
 use Rattle.std.specs.Char.{is_ascii_digit}
 use Rattle.std.specs.Fmt.{decimal}
 use Rattle.std.specs.List.{flat_map, enumerate_from}
-use Rattle.sg_shape.specs.declared.shapes.Shape.{Shape}
 use Rattle.sg_modes.specs.Sessions.{IsSession}
 use Rattle.sg_plain.specs.declared.statements.Answer.{Answer}
 use Rattle.sg_plain.specs.Rows.{Rows}
@@ -15,8 +14,8 @@ use Rattle.sg_report.specs.declared.reports.Ending.{Ending}
 use Rattle.sg_report.specs.declared.reports.Ending.TheVariants.{RolledBack}
 use Rattle.sg_report.specs.declared.reports.Other.{Other}
 use Rattle.sg_report.specs.declared.reports.Report.{Report}
-use Rattle.sg_report.specs.Texts.{answer_line, commit_text, commits_text, owner_text, ending_text, other_text, count_line, row_line, rows_text, report_text}
-use Rattle.sg_report.specs.Laws.{IsAnswer, IsCommit, IsOther, IsRow, IsReport, TextTells}
+use Rattle.sg_report.specs.Texts.{answer_line, commit_text, commits_text, owner_text, ending_text, other_text, count_line, row_line, rows_text}
+use Rattle.sg_report.specs.Laws.{IsAnswer, IsCommit, IsOther, IsRow, TextTells}
 use Rattle.sg_report.proofs.Splits.{split, all_digits}
 use Rattle.sg_report.proofs.Pieces.{first, first_of_all, rest_of_all, unequal, owner_tells, answer_line_tells, row_tells}
 

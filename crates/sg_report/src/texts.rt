@@ -3,6 +3,7 @@ ghost use Rattle.std.specs.Fmt.{decimal};
 ghost use Rattle.std.specs.List.{flat_map};
 ghost use Rattle.sg_shape.specs.Sound.{IsSound};
 ghost use Rattle.sg_plain.specs.Sat.{IsSoundAnswer, AreSoundAnswers};
+ghost use Rattle.sg_report.specs.Laws.{AreKeys, IsAnswer, IsCommit, IsOther, IsReport, IsRow};
 ghost use Rattle.sg_report.specs.Sound.{AreSoundCommits};
 ghost use Rattle.sg_report.specs.Texts.{answer_line, answer_text, commit_text, commits_text, key_text, keys_text, ending_text, other_text, owner_text, count_line, row_line, rows_text, report_text};
 
@@ -19,7 +20,8 @@ use std::alloc::{AllocError, Global};
 /// canonical well-known text. `Err` comes for want of memory alone.
 pub fn report(alloc: Global, report: &Report) -> Result<Vec<u8>, AllocError>
     requires { AreSoundCommits report.now.commits }
-    ensures { IfOk result (λ text. text.items ≡ report_text report.now) }
+    ensures text { IfOk result (λ text. text.items ≡ report_text report.now) }
+    ensures fits { IfOk result (λ _. IsReport report.now) }
 {
     let mut out = Vec::new(alloc);
     append_commits(alloc, report.commits.as_slice(), &mut out)?;
@@ -30,7 +32,8 @@ pub fn report(alloc: Global, report: &Report) -> Result<Vec<u8>, AllocError>
 
 fn append_commits(alloc: Global, commits: &[Commit], out: &mut Vec<u8>) -> Result<(), AllocError>
     requires { AreSoundCommits commits.now }
-    ensures { OnOk result (out.new.items ≡ out.old.items ++ commits_text commits.now) }
+    ensures text { OnOk result (out.new.items ≡ out.old.items ++ commits_text commits.now) }
+    ensures fits { OnOk result (All IsCommit commits.now) }
 {
     for (index, commit) in commits.iter().enumerate() {
         append_commit(alloc, index as u64 + 1, commit, out)?;
@@ -45,7 +48,8 @@ fn append_commit(
     out: &mut Vec<u8>,
 ) -> Result<(), AllocError>
     requires { AreSoundAnswers commit.now.answers }
-    ensures { OnOk result (out.new.items ≡ out.old.items ++ commit_text (place, commit.now)) }
+    ensures text { OnOk result (out.new.items ≡ out.old.items ++ commit_text (place, commit.now)) }
+    ensures fits { OnOk result (IsCommit commit.now) }
 {
     out.extend_from_slice(b"commit ")?;
     append_number(place, out)?;
@@ -65,7 +69,8 @@ fn append_owner(session: u8, transaction: u64, out: &mut Vec<u8>) -> Result<(), 
 
 fn append_answers(alloc: Global, answers: &[Answer], out: &mut Vec<u8>) -> Result<(), AllocError>
     requires { AreSoundAnswers answers.now }
-    ensures { OnOk result (out.new.items ≡ out.old.items ++ flat_map answer_line answers.now) }
+    ensures text { OnOk result (out.new.items ≡ out.old.items ++ flat_map answer_line answers.now) }
+    ensures fits { OnOk result (All IsAnswer answers.now) }
 {
     for answer in answers {
         append_answer(alloc, answer, out)?;
@@ -75,7 +80,8 @@ fn append_answers(alloc: Global, answers: &[Answer], out: &mut Vec<u8>) -> Resul
 
 fn append_answer(alloc: Global, answer: &Answer, out: &mut Vec<u8>) -> Result<(), AllocError>
     requires { IsSoundAnswer answer.now }
-    ensures { OnOk result (out.new.items ≡ out.old.items ++ answer_line answer.now) }
+    ensures text { OnOk result (out.new.items ≡ out.old.items ++ answer_line answer.now) }
+    ensures fits { OnOk result (IsAnswer answer.now) }
 {
     append_indent(out)?;
     append_answer_text(alloc, answer, out)?;
@@ -84,7 +90,8 @@ fn append_answer(alloc: Global, answer: &Answer, out: &mut Vec<u8>) -> Result<()
 
 fn append_answer_text(alloc: Global, answer: &Answer, out: &mut Vec<u8>) -> Result<(), AllocError>
     requires { IsSoundAnswer answer.now }
-    ensures { OnOk result (out.new.items ≡ out.old.items ++ answer_text answer.now) }
+    ensures text { OnOk result (out.new.items ≡ out.old.items ++ answer_text answer.now) }
+    ensures fits { OnOk result (IsAnswer answer.now) }
 {
     match answer {
         Answer::Inserted => out.extend_from_slice(b"inserted"),
@@ -107,7 +114,8 @@ fn append_found(alloc: Global, shape: &Shape, out: &mut Vec<u8>) -> Result<(), A
 }
 
 fn append_word_and_keys(word: &[u8], keys: &[u32], out: &mut Vec<u8>) -> Result<(), AllocError>
-    ensures { OnOk result (out.new.items ≡ out.old.items ++ (word.now ++ keys_text keys.now)) }
+    ensures text { OnOk result (out.new.items ≡ out.old.items ++ (word.now ++ keys_text keys.now)) }
+    ensures fits { OnOk result (AreKeys keys.now) }
 {
     out.extend_from_slice(word)?;
     append_keys(keys, out)
@@ -115,7 +123,8 @@ fn append_word_and_keys(word: &[u8], keys: &[u32], out: &mut Vec<u8>) -> Result<
 
 /// Appends each key after a space.
 fn append_keys(keys: &[u32], out: &mut Vec<u8>) -> Result<(), AllocError>
-    ensures { OnOk result (out.new.items ≡ out.old.items ++ keys_text keys.now) }
+    ensures text { OnOk result (out.new.items ≡ out.old.items ++ keys_text keys.now) }
+    ensures fits { OnOk result (AreKeys keys.now) }
 {
     for key in keys {
         append_key(*key, out)?;
@@ -131,7 +140,8 @@ fn append_key(key: u32, out: &mut Vec<u8>) -> Result<(), AllocError>
 }
 
 fn append_others(others: &[Other], out: &mut Vec<u8>) -> Result<(), AllocError>
-    ensures { OnOk result (out.new.items ≡ out.old.items ++ flat_map other_text others.now) }
+    ensures text { OnOk result (out.new.items ≡ out.old.items ++ flat_map other_text others.now) }
+    ensures fits { OnOk result (All IsOther others.now) }
 {
     for other in others {
         append_other(other, out)?;
@@ -140,7 +150,8 @@ fn append_others(others: &[Other], out: &mut Vec<u8>) -> Result<(), AllocError>
 }
 
 fn append_other(other: &Other, out: &mut Vec<u8>) -> Result<(), AllocError>
-    ensures { OnOk result (out.new.items ≡ out.old.items ++ other_text other.now) }
+    ensures text { OnOk result (out.new.items ≡ out.old.items ++ other_text other.now) }
+    ensures fits { OnOk result (IsOther other.now) }
 {
     out.extend_from_slice(ending_text(other.ending))?;
     append_owner(other.session.number(), other.transaction, out)
@@ -156,7 +167,8 @@ fn ending_text(ending: Ending) -> &'static [u8]
 
 fn append_rows(alloc: Global, rows: &[(u32, Shape)], out: &mut Vec<u8>) -> Result<(), AllocError>
     requires { All (λ row. IsSound row.1) rows.now }
-    ensures { OnOk result (out.new.items ≡ out.old.items ++ rows_text rows.now) }
+    ensures text { OnOk result (out.new.items ≡ out.old.items ++ rows_text rows.now) }
+    ensures fits { OnOk result (All IsRow rows.now) }
 {
     append_count(rows.len() as u64, out)?;
     append_each_row(alloc, rows, out)
@@ -176,7 +188,8 @@ fn append_each_row(
     out: &mut Vec<u8>,
 ) -> Result<(), AllocError>
     requires { All (λ row. IsSound row.1) rows.now }
-    ensures { OnOk result (out.new.items ≡ out.old.items ++ flat_map row_line rows.now) }
+    ensures text { OnOk result (out.new.items ≡ out.old.items ++ flat_map row_line rows.now) }
+    ensures fits { OnOk result (All IsRow rows.now) }
 {
     for row in rows {
         append_row(alloc, row, out)?;
@@ -186,7 +199,8 @@ fn append_each_row(
 
 fn append_row(alloc: Global, row: &(u32, Shape), out: &mut Vec<u8>) -> Result<(), AllocError>
     requires { IsSound row.now.1 }
-    ensures { OnOk result (out.new.items ≡ out.old.items ++ row_line row.now) }
+    ensures text { OnOk result (out.new.items ≡ out.old.items ++ row_line row.now) }
+    ensures fits { OnOk result (IsRow row.now) }
 {
     append_indent(out)?;
     append_number(row.0 as u64, out)?;

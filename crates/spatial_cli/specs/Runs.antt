@@ -3,6 +3,7 @@ use Rattle.std.specs.Prelude.{◌≡◌, ◌⊎◌, ℕ, ◌≤◌, ◌<◌, Lis
 use Rattle.std.specs.Io.KnownBytes.{Consumes, Appends, IsAtEnd}
 use Rattle.sg_io.specs.Causes.{Rose}
 use Rattle.sg_report.specs.declared.reports.Report.{Report}
+use Rattle.sg_report.specs.Laws.{IsReport}
 use Rattle.sg_report.specs.Texts.{report_text}
 use Rattle.sg_script.specs.declared.faults.ScriptFault.{ScriptFault}
 use Rattle.sg_script.specs.Grammar.{script_in}
@@ -15,12 +16,13 @@ pub record Gave (before after : Option (List ℕ)) (bytes : List ℕ) : Type 0 w
   pub end : IsAtEnd after
   pub within : length bytes ≤ 67108864
 
--- the text of a run of the script that the bytes spell
+-- the text of a run of the script that the bytes spell; what it tells fits, so that no other such report has this text
 pub record IsTextOf (bytes text : List ℕ) : Type 0 where
   pub plan : Plan
   pub report : Report
   pub script : script_in bytes ≡ Ok plan
   pub run : IsRun plan report
+  pub fits : IsReport report
   pub is : text ≡ report_text report
 
 -- The source gave a script to its end, and the sink took the whole text of a run of it.
@@ -31,6 +33,7 @@ pub record IsReplay (before after old new : Option (List ℕ)) : Type 0 where
   pub given : Gave before after bytes
   pub script : script_in bytes ≡ Ok plan
   pub run : IsRun plan report
+  pub fits : IsReport report
   pub printed : Appends old new (report_text report)
 
 -- The source gave a script to its end, and the sink took the front of the text of a run of it.
@@ -42,6 +45,7 @@ pub record IsCut (before after old new : Option (List ℕ)) : Type 0 where
   pub given : Gave before after bytes
   pub script : script_in bytes ≡ Ok plan
   pub run : IsRun plan report
+  pub fits : IsReport report
   pub short : sent < length (report_text report)
   pub printed : Appends old new (take sent (report_text report))
 

@@ -1,6 +1,7 @@
 //! The program: a script of transactions on a table of shapes, played and printed.
 #![tactic(auto)]
 
+mod laws;
 mod player;
 mod points;
 mod program;
@@ -9,6 +10,7 @@ mod status;
 mod tests;
 mod words;
 
+pub use laws::text_tells_run;
 pub use program::{replay_main, spatial_main};
 use sg_io::{StdSink, StdSource};
 pub use status::Status;
