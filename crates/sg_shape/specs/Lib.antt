@@ -3,3 +3,6 @@ pub mod Shapes
 pub mod Matrix
 pub mod Sound
 pub mod Bounds
+pub mod Boxes
+pub mod Near
+pub mod Grown

@@ -1,5 +1,5 @@
 -- What each shape is made of.
-use Rattle.std.specs.Prelude.{List, [], ◌∷◌}
+use Rattle.std.specs.Prelude.{List, [], ◌∷◌, flat_map}
 use Rattle.sg_shape.specs.declared.spots.Spot.{Spot}
 use Rattle.sg_shape.specs.declared.shapes.Shape.{Shape}
 use Rattle.sg_shape.specs.declared.shapes.Shape.TheVariants as shape
@@ -10,6 +10,8 @@ use Rattle.sg_shape.specs.Plane.{Point, Parts, Status, status}
 abbrev pub parts_of : Shape → Parts
 parts_of (shape.Empty kind) = record { points = []; lines = []; areas = [] ∷ [] }
 parts_of (shape.Point spot) = record { points = spot ∷ []; lines = []; areas = [] ∷ [] }
+parts_of (shape.Line path) = record { points = []; lines = path ∷ []; areas = [] ∷ [] }
+parts_of (shape.Polygon rings) = record { points = []; lines = []; areas = rings ∷ [] }
 
 -- the status of a point in a shape
 abbrev pub status_in : Shape → Point → Status
@@ -19,3 +21,5 @@ status_in s p = status (parts_of s) p
 abbrev pub spots : Shape → List Spot
 spots (shape.Empty kind) = []
 spots (shape.Point spot) = spot ∷ []
+spots (shape.Line path) = path
+spots (shape.Polygon rings) = flat_map (λ ring. ring) rings
