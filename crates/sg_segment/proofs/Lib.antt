@@ -1,0 +1,13 @@
+pub mod Ring
+pub mod Comparisons
+pub mod Edges
+pub mod PassOrder
+pub mod Wide
+pub mod Fitting
+pub mod Passing
+pub mod Segments
+pub mod Lexes
+pub mod Crossed
+pub mod Overlaps
+pub mod Exclusive
+pub mod Examples

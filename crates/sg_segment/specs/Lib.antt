@@ -1,0 +1,5 @@
+pub mod Ranges
+pub mod Sides
+pub mod Passes
+pub mod Crossings
+pub mod Meetings
