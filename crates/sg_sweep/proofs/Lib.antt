@@ -1,0 +1,10 @@
+pub mod Orders
+pub mod Gather
+pub mod FirstCrossing
+pub mod NextSpot
+pub mod PartTags
+pub mod Fewer
+pub mod Rising
+pub mod Whole
+pub mod Front
+pub mod Queue
