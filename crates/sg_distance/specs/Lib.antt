@@ -1,0 +1,4 @@
+pub mod Edges
+pub mod Figure
+pub mod Shapes
+pub mod Grown

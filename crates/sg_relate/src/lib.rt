@@ -1,0 +1,22 @@
+//! The judge of shapes: their matrix by a plane sweep, and their nearness by distances of edges.
+#![tactic(auto)]
+
+use sg_shape::{Judge, Matrix, Shape};
+use std::alloc::{AllocError, Global};
+
+/// Judges two shapes exactly, over all points of the plane.
+#[derive(Clone, Copy, Debug)]
+pub struct Relate;
+
+impl Judge for Relate {
+    fn relate(&self, alloc: Global, a: &Shape, b: &Shape) -> Result<Matrix, AllocError> {
+        sg_sweep::statuses(alloc, a, b)
+    }
+
+    fn near(&self, a: &Shape, b: &Shape, d: u32, strict: bool) -> bool {
+        sg_distance::near(a, b, d, strict)
+    }
+}
+
+#[cfg(test)]
+mod tests;

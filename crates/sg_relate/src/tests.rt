@@ -1,0 +1,25 @@
+use super::Relate;
+use sg_shape::{Judge, Kind, Pred, Shape, Spot};
+use std::test::Fail;
+
+#[test]
+fn points(rt: HostRuntime) -> Result<(), Fail> {
+    let alloc = rt.alloc();
+    let origin = Shape::Point(Spot { x: 0, y: 0 });
+    let other = Shape::Point(Spot { x: 3, y: 4 });
+    let judge = Relate;
+    assert!(rt;
+        judge
+            .relate(alloc, &origin, &origin)?
+            .satisfies(Pred::Equals)
+    );
+    assert!(rt;
+        !judge
+            .relate(alloc, &origin, &other)?
+            .satisfies(Pred::Intersects)
+    );
+    assert!(rt; !judge.near(&origin, &other, 5, true));
+    assert!(rt; judge.near(&origin, &other, 5, false));
+    assert!(rt; !judge.near(&origin, &Shape::Empty(Kind::Line), 5, false));
+    Ok(())
+}
