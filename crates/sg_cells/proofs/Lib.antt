@@ -1,0 +1,17 @@
+pub mod Spans
+pub mod Split
+pub mod Ids
+pub mod Paths
+pub mod Fronts
+pub mod BoxEdges
+pub mod Tessellates
+pub mod Related
+pub mod Rising
+pub mod Central
+pub mod Places
+pub mod Lattices
+pub mod Children
+pub mod Faultless
+pub mod Covered
+pub mod Lawful
+pub mod Examples

@@ -1,0 +1,30 @@
+ghost use Rattle.sg_cells.specs.Claims.{LevelsSplitTheBox, ChildrenSplitTheirCell, EmptyCellsHoldNothing, DescendantsAreAnInterval, IdsAreInOrder, LooksAreRight, CellsStandForShapes, LooksAgree, RangesAreRelated, RangesRise, CommonPointsMakeCandidates, SureOnesShareAPoint};
+
+/// Each point of the closed box lies in exactly one cell of each level, and each other point in cell 0; the
+/// children of a cell split its points; a cell with a side of length 0 has none. A cell's descendants are an
+/// interval of ids, and ids rise as places do. The call does nothing.
+pub fn cell_laws()
+    ensures levels { LevelsSplitTheBox }
+    ensures children { ChildrenSplitTheirCell }
+    ensures empty { EmptyCellsHoldNothing }
+    ensures descendants { DescendantsAreAnInterval }
+    ensures order { IdsAreInOrder }
+{}
+
+/// The cells of a shape hold each of its points once, each has one of them, and a cell other than cell 0 is
+/// marked as covered exactly where it is. It matters not who looks at the shape. The call does nothing.
+pub fn tess_laws()
+    ensures looks { LooksAreRight }
+    ensures stands { CellsStandForShapes }
+    ensures agree { LooksAgree }
+{}
+
+/// A cell is in a range of a query exactly where it is one of the query's cells, an ancestor or a descendant of
+/// one. Shapes with a common point are found by their cells, and what the cells alone accept has one. The call
+/// does nothing.
+pub fn range_laws()
+    ensures related { RangesAreRelated }
+    ensures rise { RangesRise }
+    ensures candidates { CommonPointsMakeCandidates }
+    ensures sure { SureOnesShareAPoint }
+{}

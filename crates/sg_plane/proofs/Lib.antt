@@ -1,0 +1,14 @@
+pub mod Ring
+pub mod Comparisons
+pub mod Totals
+pub mod Lists
+pub mod Edges
+pub mod Alike
+pub mod Moved
+pub mod Samples
+pub mod Statuses
+pub mod Decided
+pub mod Crossings
+pub mod Bounds
+pub mod Filled
+pub mod Examples
