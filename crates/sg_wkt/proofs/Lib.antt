@@ -3,5 +3,9 @@ pub mod Fronts
 pub mod Digits
 pub mod Numerals
 pub mod Written
+pub mod SoundParts
+pub mod Complete
+pub mod Consumed
 pub mod LawProofs
 pub mod Sound
+pub mod Turns

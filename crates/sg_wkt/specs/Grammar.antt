@@ -1,12 +1,17 @@
 -- The grammar: what a text spells, or its first fault from the left. Each production takes the tokens that are left,
 -- and gives what it reads and the tokens after it.
-use Rattle.std.specs.Prelude.{◌≡◌, ℕ, Bool, if◌then◌else◌, List, [], ◌∷◌, ℤ, Option, Some, None, Result, Ok, Err, codes, bytes_eq}
+use Rattle.std.specs.Prelude.{◌≡◌, ℕ, zero, suc, Bool, not, ◌||◌, if◌then◌else◌, nat_lt, List, [], ◌∷◌, ◌++◌, length, ℤ, Option, Some, None, Result, Ok, Err, codes, bytes_eq}
 use Rattle.std.specs.Str.{str_eq_ignore_ascii_case}
 use Rattle.sg_shape.specs.declared.spots.Spot.{Spot}
 use Rattle.sg_shape.specs.declared.shapes.Kind.{Kind}
 use Rattle.sg_shape.specs.declared.shapes.Kind.TheVariants as kind
 use Rattle.sg_shape.specs.declared.shapes.Shape.{Shape}
 use Rattle.sg_shape.specs.declared.shapes.Shape.TheVariants as shapes
+use Rattle.sg_shape.specs.Sound.{is_open, is_short}
+use Rattle.sg_wkt.specs.declared.drafts.Draft.{Draft}
+use Rattle.sg_wkt.specs.declared.drafts.Draft.TheVariants as draft
+use Rattle.sg_wkt.specs.declared.drafts.Next.{Next}
+use Rattle.sg_wkt.specs.declared.drafts.Next.TheVariants as next
 use Rattle.sg_wkt.specs.declared.faults.WktFault.{WktFault}
 use Rattle.sg_wkt.specs.declared.faults.WktKind.{WktKind}
 use Rattle.sg_wkt.specs.declared.faults.ReadShape.{ReadShape}
@@ -38,11 +43,21 @@ first (Begins token rest) = Ok (token, rest)
 abbrev pub is_word : List ℕ → List ℕ → Bool
 is_word word token = str_eq_ignore_ascii_case token word
 
+-- the token is this bracket or comma
+abbrev pub is_one : ℕ → Token → Bool
+is_one byte token = bytes_eq token.bytes (byte ∷ [])
+
 -- the tokens after this bracket or comma, which must stand here
 unfoldable pub mark : ℕ → Tokens → Result Tokens WktFault
 mark byte ts = do
   token ← first ts
-  if bytes_eq token.0.bytes (byte ∷ []) then Ok token.1 else fault token.0.at kinds.Punctuation
+  if is_one byte token.0 then Ok token.1 else fault token.0.at kinds.Punctuation
+
+-- "," or ")", which must stand here
+unfoldable pub separator : Tokens → Reading Token
+separator ts = do
+  token ← first ts
+  if is_one 44 token.0 || is_one 41 token.0 then Ok token else fault token.0.at kinds.Punctuation
 
 -- a number, at the token at this place, before these tokens
 abbrev pub placed : {X : Type 0} → ℕ → Tokens → Result X WktKind → Reading X
@@ -54,7 +69,7 @@ number ts = do
   token ← first ts
   placed token.0.at token.1 (coordinate token.0.bytes)
 
--- ---- productions
+-- ---- spots
 -- spot = number number
 unfoldable pub spot : Tokens → Reading Spot
 spot ts = do
@@ -62,6 +77,78 @@ spot ts = do
   y ← number x.1
   Ok (record { x = x.0; y = y.0 }, y.1)
 
+-- the most spots of a shape, all rings together
+abbrev pub most_spots : ℕ
+most_spots = 2048
+
+-- no spot may stand here any more
+unfoldable pub no_room : Tokens → Reading Shape
+no_room ts = do
+  token ← first ts
+  fault token.0.at kinds.TooMany
+
+-- a line whose bracket is the token at this place
+abbrev pub whole_line : ℕ → List Spot → Result Shape WktFault
+whole_line at spots = if nat_lt (length spots) 2 then fault at kinds.TooFew else Ok (shapes.Line spots)
+
+-- a ring whose bracket is the token at this place
+abbrev pub whole_ring : ℕ → List Spot → Result (List Spot) WktFault
+whole_ring at ring =
+    if is_short ring then fault at kinds.TooFew
+    else (if is_open ring then fault at kinds.RingOpen else Ok ring)
+
+-- after a line's spot: "," and a further spot, or ")"
+unfoldable pub after_line_spot : List Spot → Tokens → Reading Next
+after_line_spot spots ts = do
+  token ← separator ts
+  if is_one 44 token.0 then Ok (next.Spot (draft.Line spots), token.1) else (do
+    line ← whole_line token.0.at spots
+    Ok (next.Whole line, token.1))
+
+-- after a ring: "," "(" and the first spot of a further ring, or ")"
+unfoldable pub after_ring : List (List Spot) → Tokens → Reading Next
+after_ring rings ts = do
+  token ← separator ts
+  if not (is_one 44 token.0) then Ok (next.Whole (shapes.Polygon rings), token.1) else (do
+    opened ← mark 40 token.1
+    Ok (next.Spot (draft.Polygon rings []), opened))
+
+-- after a ring's spot: "," and a further spot, or ")" and what stands after a ring
+unfoldable pub after_ring_spot : List (List Spot) → List Spot → Tokens → Reading Next
+after_ring_spot rings ring ts = do
+  token ← separator ts
+  if is_one 44 token.0 then Ok (next.Spot (draft.Polygon rings ring), token.1) else (do
+    whole ← whole_ring token.0.at ring
+    after_ring (rings ++ whole ∷ []) token.1)
+
+abbrev pub after_spot : Draft → Tokens → Reading Next
+after_spot (draft.Line spots) ts = after_line_spot spots ts
+after_spot (draft.Polygon rings ring) ts = after_ring_spot rings ring ts
+
+-- with the spot that was read
+abbrev pub with_spot : Draft → Spot → Draft
+with_spot (draft.Line spots) s = draft.Line (spots ++ s ∷ [])
+with_spot (draft.Polygon rings ring) s = draft.Polygon rings (ring ++ s ∷ [])
+
+-- a spot, and what stands after it
+unfoldable pub step : Draft → Tokens → Reading Next
+step d ts = do
+  s ← spot ts
+  after_spot (with_spot d s.0) s.1
+
+-- where the shape is whole, no further spot
+abbrev pub until_whole : (Draft → Tokens → Reading Shape) → Next × Tokens → Reading Shape
+until_whole further (next.Spot d, ts) = further d ts
+until_whole further (next.Whole s, ts) = Ok (s, ts)
+
+-- The spots of a shape from here on, of which there may be this many, and what stands after them.
+unfoldable pub spots : ℕ → Draft → Tokens → Reading Shape
+spots zero d ts = no_room ts
+spots (suc room) d ts = do
+  n ← step d ts
+  until_whole (λ further rest. spots room further rest) n
+
+-- ---- shapes
 -- the tokens after EMPTY, where that is next
 abbrev pub after_empty : Tokens → Option Tokens
 after_empty (Ends at) = None
@@ -80,15 +167,36 @@ point_body ts = do
   closed ← mark 41 place.1
   Ok (shapes.Point place.0, closed)
 
--- point = POINT ( EMPTY | "(" spot ")" ), after its word
+-- "(" spot { "," spot } ")"
+unfoldable pub line_body : Tokens → Reading Shape
+line_body ts = do
+  opened ← mark 40 ts
+  spots most_spots (draft.Line []) opened
+
+-- "(" ring { "," ring } ")", where ring = "(" spot { "," spot } ")"
+unfoldable pub polygon_body : Tokens → Reading Shape
+polygon_body ts = do
+  opened ← mark 40 ts
+  ring ← mark 40 opened
+  spots most_spots (draft.Polygon [] []) ring
+
+-- what stands after a shape's word
 unfoldable pub point : Tokens → Reading Shape
 point ts = or_empty kind.Point (point_body ts) (after_empty ts)
 
--- shape = point
+unfoldable pub line : Tokens → Reading Shape
+line ts = or_empty kind.Line (line_body ts) (after_empty ts)
+
+unfoldable pub polygon : Tokens → Reading Shape
+polygon ts = or_empty kind.Polygon (polygon_body ts) (after_empty ts)
+
+-- shape = POINT ( EMPTY | point_body ) | LINESTRING ( EMPTY | line_body ) | POLYGON ( EMPTY | polygon_body )
 unfoldable pub shape : Tokens → Reading Shape
 shape ts = do
   token ← first ts
-  if is_word (codes "POINT") token.0.bytes then point token.1 else fault token.0.at kinds.Keyword
+  if is_word (codes "POINT") token.0.bytes then point token.1
+      else (if is_word (codes "LINESTRING") token.0.bytes then line token.1
+      else (if is_word (codes "POLYGON") token.0.bytes then polygon token.1 else fault token.0.at kinds.Keyword))
 
 -- no token stands after the shape
 abbrev pub and_nothing : Shape → Tokens → Result Shape WktFault

@@ -1,23 +1,16 @@
 -- What holds between reading and writing.
-use Rattle.std.specs.Prelude.{◌≡◌, ℕ, nat_le, Bool, ◌&&◌, IsTrue, List, Ok, Contains}
+use Rattle.std.specs.Prelude.{◌≡◌, ◌↔◌, ℕ, nat_le, Bool, ◌&&◌, IsTrue, List, Ok, Contains}
 use Rattle.std.specs.List.{list_all}
-use Rattle.sg_shape.specs.declared.shapes.Kind.TheVariants as kind
 use Rattle.sg_shape.specs.declared.shapes.Shape.{Shape}
-use Rattle.sg_shape.specs.declared.shapes.Shape.TheVariants as shapes
 use Rattle.sg_shape.specs.Sound.{IsSound}
+use Rattle.sg_wkt.specs.Tokens.{tokens}
 use Rattle.sg_wkt.specs.Grammar.{shape_in}
+use Rattle.sg_wkt.specs.Spelled.{Spells, texts_of}
 use Rattle.sg_wkt.specs.Canonical.{canonical}
-
--- a shape of a kind that is read
-abbrev pub IsRead : Shape → Type 0
-IsRead (shapes.Empty kind.Point) = Unit {0}
-IsRead (shapes.Empty kind.Line) = ⊥
-IsRead (shapes.Empty kind.Polygon) = ⊥
-IsRead (shapes.Point spot) = Unit {0}
 
 -- what was written is read as the same shape
 abbrev pub ReadsBack : Type 0
-ReadsBack = (s : Shape) → IsSound s → IsRead s → shape_in (canonical s) ≡ Ok s
+ReadsBack = (s : Shape) → IsSound s → shape_in (canonical s) ≡ Ok s
 
 -- two shapes have two texts
 abbrev pub TellsApart : Type 0
@@ -38,3 +31,7 @@ IsOneLine = (s : Shape) → IsSound s → ¬ Contains (canonical s) 10
 -- what is read is sound
 abbrev pub ReadsSound : Type 0
 ReadsSound = (text : List ℕ) (s : Shape) → shape_in text ≡ Ok s → IsSound s
+
+-- a text is read exactly where its tokens spell a sound shape, and as that shape
+abbrev pub ReadsExactly : Type 0
+ReadsExactly = (text : List ℕ) (s : Shape) → shape_in text ≡ Ok s ↔ (Spells (texts_of (tokens text)) s × IsSound s)

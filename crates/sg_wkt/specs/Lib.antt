@@ -3,4 +3,5 @@ pub mod Numbers
 pub mod Grammar
 pub mod Cursors
 pub mod Canonical
+pub mod Spelled
 pub mod Laws

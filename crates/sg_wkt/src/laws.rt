@@ -1,8 +1,8 @@
 //! What holds between reading and writing, for all sound shapes.
 
-ghost use Rattle.sg_wkt.specs.Laws.{IsOneLine, IsPrintable, ReadsBack, ReadsSound, TellsApart};
+ghost use Rattle.sg_wkt.specs.Laws.{IsOneLine, IsPrintable, ReadsBack, ReadsExactly, ReadsSound, TellsApart};
 
-/// What `write_wkt` appends for a sound shape of a kind that is read, `read_wkt` reads as that shape.
+/// What `write_wkt` appends for a sound shape, `read_wkt` reads as that shape.
 pub fn reads_back()
     ensures { ReadsBack }
 {}
@@ -21,4 +21,9 @@ pub fn is_one_line()
 /// Each shape that a text spells is sound.
 pub fn reads_sound()
     ensures { ReadsSound }
+{}
+
+/// A text is read exactly where its tokens spell a sound shape, and as that shape.
+pub fn reads_exactly()
+    ensures { ReadsExactly }
 {}

@@ -1,7 +1,7 @@
 use Rattle.std.proofs.lemmas.Bool.Decides.{same_from_decides}
 use Rattle.std.specs.Str.{str_to_ascii_lowercase}
 use lib.Pointwise.{bytes_decides}
-use Rattle.sg_wkt.proofs.reading.is_word.Goals as goal
+use Rattle.sg_wkt.proofs.pieces.is_word.Goals as goal
 
 pub returns : goal.returns
 returns c =
