@@ -4,12 +4,12 @@ use Rattle.std.specs.List.{list_any}
 use Rattle.std.specs.Prelude.{filter, not}
 use Rattle.std.proofs.lemmas.Bool.{cases_eq, cases_lt, cases_order, cond_both, cond-true, cond-false, eq-eqb, ne_eqb, lt-ltb, le-ltb}
 use Rattle.std.proofs.lemmas.List.{map-append}
-use Rattle.std.proofs.lemmas.List.Elements.{All-append, All-cons, All-filter}
+use Rattle.std.proofs.lemmas.List.Elements.{All-append, All-cons, All-filter, All-nil}
 use Rattle.sg_shape.specs.declared.shapes.Kind.TheVariants as kind
 use Rattle.sg_shape.specs.declared.shapes.Shape.{Shape}
 use Rattle.sg_shape.specs.declared.shapes.Shape.TheVariants as shape
 use Rattle.sg_shape.specs.Sound.{IsSound}
-use Rattle.sg_plain.specs.Keys.{RisesFrom}
+use Rattle.sg_plain.specs.Keys.{RisesFrom, IsRising}
 use Rattle.sg_plain.specs.Rows.{Rows, keys_of, AreRows, shape_at, below, above, put, without_key, without_keys}
 use Rattle.sg_plain.proofs.KeyLemmas.{RisesFrom-lower, rising_without}
 
@@ -161,9 +161,17 @@ AreRows-put rows k s h sound =
           (All-cons P (k, s) (above k rows) sound (All-filter _ P rows h.sound));
     }
 
--- ---- a row removed
+-- ---- a row put last, and a row removed
 keys_of-append : (xs ys : Rows) → keys_of (xs ++ ys) ≡ keys_of xs ++ keys_of ys
 keys_of-append xs ys = map-append (λ (row : ℕ × Shape). row.0) xs ys
+
+pub AreRows-push : (rows : Rows) (k : ℕ) (s : Shape) → AreRows rows → IsRising (keys_of rows ++ k ∷ []) → IsSound s → AreRows (rows ++ (k, s) ∷ [])
+AreRows-push rows k s h above sound =
+    let P : ℕ × Shape → Type 0 = λ row. IsSound row.1 in
+    record {
+      rising = subst IsRising (sym (keys_of-append rows ((k, s) ∷ []))) above;
+      sound = All-append P rows ((k, s) ∷ []) h.sound (All-cons P (k, s) [] sound (All-nil P));
+    }
 
 pub AreRows-without_key : (rows : Rows) (k : ℕ) → AreRows rows → AreRows (without_key k rows)
 AreRows-without_key rows k h =

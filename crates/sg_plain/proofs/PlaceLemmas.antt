@@ -151,8 +151,8 @@ Searched-absent rows k (Ok i) rising s = tt
 Searched-absent rows k (Err i) rising s = absent_in_gap rows k i rising s.gap
 
 -- a row that was read at another default
-pub row_read : (rows : Rows) (i : ℕ) → i < length rows → get_or rows i no_row ≡ get_or rows i (get_or rows i no_row)
-row_read rows i within = get_or_default rows i no_row (get_or rows i no_row) within
+pub row_is : (rows : Rows) (i : ℕ) (row d : ℕ × Shape) → i < length rows → row ≡ get_or rows i d → row ≡ get_or rows i row
+row_is rows i row d within e = e ∙ get_or_default rows i d row within
 
 -- ---- edits of the row at a place
 pub put-at : (rows : Rows) (i : ℕ) (s : Shape) → IsRising (keys_of rows) → i < length rows → put (key_at rows i) s rows ≡ set rows i (key_at rows i, s)

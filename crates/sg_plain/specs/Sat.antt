@@ -1,8 +1,9 @@
 -- When a row's shape satisfies a query, and which queries and statements are sound.
-use Rattle.std.specs.Prelude.{List, All}
+use Rattle.std.specs.Prelude.{◌≤◌, List, All}
 use Rattle.sg_shape.specs.declared.shapes.Shape.{Shape}
 use Rattle.sg_shape.specs.declared.matrices.Pred.TheVariants.{Intersects}
 use Rattle.sg_shape.specs.Matrix.{Relates}
+use Rattle.sg_shape.specs.Near.{Near}
 use Rattle.sg_shape.specs.Sound.{IsSound}
 use Rattle.sg_plain.specs.declared.statements.Test.{Test}
 use Rattle.sg_plain.specs.declared.statements.Test.TheVariants as test
@@ -15,6 +16,7 @@ use Rattle.sg_plain.specs.declared.statements.Answer.TheVariants as answer
 -- the test holds of a row's shape, which comes first, and a query's
 abbrev pub Sat : Test → Shape → Shape → Type 0
 Sat (test.Relate pred) row query = Relates pred row query
+Sat (test.Near bound strict) row query = Near row query bound strict
 
 -- the row's shape satisfies the query
 abbrev pub Satisfies : Query → Shape → Type 0
@@ -24,10 +26,16 @@ Satisfies q row = Sat q.test row q.shape
 abbrev pub Meeting : Shape → Shape → Type 0
 Meeting shape row = Relates Intersects row shape
 
-abbrev pub IsSoundQuery : Query → Type 0
-IsSoundQuery q = IsSound q.shape
+-- a bound of distances is within its limit
+abbrev pub IsSoundTest : Test → Type 0
+IsSoundTest (test.Relate pred) = Unit {0}
+IsSoundTest (test.Near bound strict) = bound ≤ 64000000
 
--- each shape that the statement names is sound
+pub record IsSoundQuery (q : Query) : Type 0 where
+  pub test : IsSoundTest q.test
+  pub shape : IsSound q.shape
+
+-- each shape that the statement names is sound, and so is each bound
 abbrev pub IsSoundStatement : Statement → Type 0
 IsSoundStatement (statement.Insert k s) = IsSound s
 IsSoundStatement (statement.Update k s) = IsSound s

@@ -2,7 +2,7 @@ ghost use Rattle.std.specs.Prelude.{◌↔◌, ◌∷◌, [], ◌++◌, IsTrue, 
 ghost use Rattle.sg_shape.specs.Sound.{IsSound};
 ghost use Rattle.sg_plain.specs.Keys.{IsRising};
 ghost use Rattle.sg_plain.specs.Rows.{AreRows, IsKeysWith};
-ghost use Rattle.sg_plain.specs.Sat.{Sat};
+ghost use Rattle.sg_plain.specs.Sat.{IsSoundTest, Sat};
 ghost use Rattle.sg_plain.specs.Takes.{Takes};
 
 use crate::keys::KeyList;
@@ -19,6 +19,7 @@ pub(crate) fn keys_with<J: Judge>(
     shape: &Shape,
 ) -> Result<KeyList, AllocError>
     requires rows { AreRows rows.now }
+    requires test { IsSoundTest test }
     requires sound { IsSound shape.now }
     ensures { IfOk result (IsKeysWith (λ row. Sat test row shape.now) rows.now) }
 {
@@ -39,6 +40,7 @@ fn take_row<J: Judge>(
     shape: &Shape,
 ) -> Result<(), AllocError>
     requires row { IsSound row.now.1 }
+    requires test { IsSoundTest test }
     requires sound { IsSound shape.now }
     requires above { IsRising (keys.old ++ row.now.0 ∷ []) }
     ensures { OnOk result (Takes (λ row. Sat test row shape.now) row.now keys.old keys.new) }
@@ -60,6 +62,7 @@ fn is_sat<J: Judge>(
     shape: &Shape,
 ) -> Result<bool, AllocError>
     requires row { IsSound row.now }
+    requires test { IsSoundTest test }
     requires sound { IsSound shape.now }
     ensures { IfOk result (λ yes. IsTrue yes ↔ Sat test row.now shape.now) }
 {
@@ -68,5 +71,6 @@ fn is_sat<J: Judge>(
             let matrix = judge.relate(alloc, row, shape)?;
             Ok(matrix.satisfies(pred))
         }
+        Test::Near { bound, strict } => Ok(judge.near(row, shape, bound, strict)),
     }
 }

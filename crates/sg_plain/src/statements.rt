@@ -9,6 +9,9 @@ use std::alloc::{AllocError, Global};
 pub enum Test {
     /// They are so related.
     Relate(Pred),
+    /// Some point of the one and some point of the other are nearer than the bound where it is strict, else no
+    /// farther. The bound is 0 to 64,000,000, in units of the coordinates.
+    Near { bound: u32, strict: bool },
 }
 
 /// A test of rows against a shape.

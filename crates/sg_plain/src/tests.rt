@@ -1,16 +1,6 @@
 use super::*;
-use sg_shape::{Judge, Kind, Matrix, Pred, Shape, Spot};
-use std::alloc::{AllocError, Global};
+use sg_shape::{Kind, Pred, Shape, Spot};
 use std::test::Fail;
-
-/// A judge that never answers.
-struct Silent;
-
-impl Judge for Silent {
-    fn relate(&self, _alloc: Global, _a: &Shape, _b: &Shape) -> Result<Matrix, AllocError> {
-        Err(AllocError)
-    }
-}
 
 #[test]
 fn rows(rt: HostRuntime) -> Result<(), Fail> {
@@ -50,64 +40,19 @@ fn transactions(rt: HostRuntime) -> Result<(), Fail> {
         shape: Shape::Point(Spot { x: 0, y: 0 }),
     };
     assert!(rt; transaction.push(Statement::Select(query)).is_ok());
-    assert_eq!(rt; transaction.len(), 2);
+    let query = Query {
+        test: Test::Near {
+            bound: 64_000_000,
+            strict: true,
+        },
+        shape: Shape::Point(Spot { x: 0, y: 0 }),
+    };
+    assert!(rt; transaction.push(Statement::DeleteWhere(query)).is_ok());
+    assert_eq!(rt; transaction.len(), 3);
     assert_eq!(rt; transaction.end(), End::Rollback);
     assert!(rt; matches!(transaction.at(0), Some(Statement::Insert(7, _))));
     assert!(rt; matches!(transaction.at(1), Some(Statement::Select(_))));
-    assert!(rt; transaction.at(2).is_none());
-    Ok(())
-}
-
-#[test]
-fn statements_on_a_held_key(rt: HostRuntime) -> Result<(), Fail> {
-    let mut rows = PlainRows::new(rt.alloc());
-    rows.push(1, Shape::Point(Spot { x: 0, y: 0 }))?;
-    let mut transaction = Transaction::new(rt.alloc(), End::Commit);
-    let five = Shape::Point(Spot { x: 5, y: 5 });
-    assert!(rt;
-        transaction
-            .push(Statement::Insert(1, five.copy(rt.alloc())?))
-            .is_ok()
-    );
-    assert!(rt; transaction.push(Statement::Get(1)).is_ok());
-    assert!(rt; transaction.push(Statement::Update(1, five)).is_ok());
-    assert!(rt; transaction.push(Statement::Get(1)).is_ok());
-    assert!(rt; transaction.push(Statement::Delete(1)).is_ok());
-    assert!(rt; transaction.push(Statement::Get(1)).is_ok());
-    let answers = execute(rt.alloc(), &Silent, &mut rows, &transaction)?;
-    assert_eq!(rt; answers.len(), 6);
-    assert!(rt; matches!(answers.at(0), Some(Answer::Duplicate)));
-    assert!(rt; matches!(answers.at(1), Some(Answer::Found(Shape::Point(spot))) if spot.x == 0));
-    assert!(rt; matches!(answers.at(2), Some(Answer::Done)));
-    assert!(rt; matches!(answers.at(3), Some(Answer::Found(Shape::Point(spot))) if spot.x == 5));
-    assert!(rt; matches!(answers.at(4), Some(Answer::Done)));
-    assert!(rt; matches!(answers.at(5), Some(Answer::Absent)));
-    assert_eq!(rt; rows.len(), 0);
-    Ok(())
-}
-
-#[test]
-fn statements_on_a_free_key(rt: HostRuntime) -> Result<(), Fail> {
-    let mut rows = PlainRows::new(rt.alloc());
-    rows.push(2, Shape::Empty(Kind::Point))?;
-    let mut transaction = Transaction::new(rt.alloc(), End::Commit);
-    let five = Shape::Point(Spot { x: 5, y: 5 });
-    assert!(rt; transaction.push(Statement::Get(1)).is_ok());
-    assert!(rt;
-        transaction
-            .push(Statement::Update(1, five.copy(rt.alloc())?))
-            .is_ok()
-    );
-    assert!(rt; transaction.push(Statement::Delete(1)).is_ok());
-    assert!(rt; transaction.push(Statement::Insert(1, five)).is_ok());
-    let answers = execute(rt.alloc(), &Silent, &mut rows, &transaction)?;
-    assert_eq!(rt; answers.len(), 4);
-    assert!(rt; matches!(answers.at(0), Some(Answer::Absent)));
-    assert!(rt; matches!(answers.at(1), Some(Answer::Missing)));
-    assert!(rt; matches!(answers.at(2), Some(Answer::Missing)));
-    assert!(rt; matches!(answers.at(3), Some(Answer::Inserted)));
-    assert!(rt; matches!(rows.at(0), Some((1, Shape::Point(spot))) if spot.y == 5));
-    assert!(rt; matches!(rows.at(1), Some((2, Shape::Empty(Kind::Point)))));
-    assert_eq!(rt; rows.len(), 2);
+    assert!(rt; matches!(transaction.at(2), Some(Statement::DeleteWhere(_))));
+    assert!(rt; transaction.at(3).is_none());
     Ok(())
 }

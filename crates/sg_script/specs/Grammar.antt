@@ -1,6 +1,7 @@
 -- The grammar of a script: what its lines spell, or its first fault, by the number of its line and its kind.
-use Rattle.std.specs.Prelude.{ℕ, ◌+◌, ◌-◌, nat_le, ◌&&◌, if◌then◌else◌, List, [], ◌∷◌, ◌++◌, ℤ, pos, negsuc, neg_ℤ, int_le, Option, Some, None, Result, Ok, Err, codes, bytes_eq}
+use Rattle.std.specs.Prelude.{ℕ, Bool, true, false, ◌+◌, ◌-◌, nat_le, ◌&&◌, if◌then◌else◌, List, [], ◌∷◌, ◌++◌, ℤ, pos, negsuc, neg_ℤ, int_le, Option, Some, None, Result, Ok, Err, codes, bytes_eq}
 use Rattle.sg_shape.specs.declared.shapes.Shape.{Shape}
+use Rattle.sg_shape.specs.declared.matrices.Pred.{Pred}
 use Rattle.sg_shape.specs.declared.matrices.Pred.TheVariants as pred
 use Rattle.sg_wkt.specs.declared.faults.WktFault.{WktFault}
 use Rattle.sg_wkt.specs.Grammar.{shape_in}
@@ -98,9 +99,45 @@ shape_of (Err f) = Err (kind.Shape f)
 unfoldable pub shape : List ℕ → Result Shape ScriptKind
 shape text = shape_of (shape_in (after_blanks text))
 
+-- the relation that a word names
+abbrev pub relation_of : List ℕ → Option Pred
+relation_of name =
+    if bytes_eq name (codes "intersects") then Some pred.Intersects
+    else (if bytes_eq name (codes "contains") then Some pred.Contains
+    else (if bytes_eq name (codes "within") then Some pred.Within
+    else (if bytes_eq name (codes "equals") then Some pred.Equals
+    else (if bytes_eq name (codes "touches") then Some pred.Touches
+    else None))))
+
+abbrev pub bound_in : Option ℕ → Result ℕ ScriptKind
+bound_in (Some n) = if nat_le n 64000000 then Ok n else Err kind.Number
+bound_in None = Err kind.Number
+
+abbrev pub bound_from : Option ℤ → Result ℕ ScriptKind
+bound_from (Some z) = bound_in (natural z)
+bound_from None = Err kind.Number
+
+-- whether the bound itself is left out
+unfoldable pub comparison : List ℕ → Reading Bool
+comparison text =
+    if bytes_eq (field text) (codes "<") then Ok (true, after_field text)
+    else (if bytes_eq (field text) (codes "<=") then Ok (false, after_field text) else Err kind.Word)
+
+-- a comparison and a bound of distances
+unfoldable pub distance : List ℕ → Reading Test
+distance text = do
+  strict ← comparison text
+  bound ← bound_from (number (field strict.1))
+  Ok (test.Near bound strict.0, after_field strict.1)
+
+-- the word of a relation, or `distance` and what follows it
+abbrev pub test_from : Option Pred → List ℕ → Reading Test
+test_from (Some p) text = Ok (test.Relate p, after_field text)
+test_from None text = if bytes_eq (field text) (codes "distance") then distance (after_field text) else Err kind.Word
+
 -- a test of rows against a shape
 unfoldable pub test_of : List ℕ → Reading Test
-test_of text = if bytes_eq (field text) (codes "intersects") then Ok (test.Relate pred.Intersects, after_field text) else Err kind.Word
+test_of text = test_from (relation_of (field text)) text
 
 -- ---- lines, after their first word
 -- the least key that the next row may have, and the least number that the next session may have

@@ -1,7 +1,8 @@
 ghost use Rattle.std.specs.Prelude.{◌≡◌, ◌≤◌, IfOk};
 ghost use Rattle.sg_shape.specs.Sound.{IsSound};
+ghost use Rattle.sg_plain.specs.Sat.{IsSoundTest};
 ghost use Rattle.sg_script.specs.Gives.{Gives};
-ghost use Rattle.sg_script.specs.Grammar.{expect, key, key_from, key_in, natural, nothing, priority, priority_from, session_from, session_in, session_number, shape, test_of};
+ghost use Rattle.sg_script.specs.Grammar.{bound_from, bound_in, comparison, distance, expect, key, key_from, key_in, natural, nothing, priority, priority_from, relation_of, session_from, session_in, session_number, shape, test_of};
 
 use crate::faults::{ReadLine, ScriptKind};
 use crate::fields::{first_field, skip_blanks};
@@ -156,15 +157,95 @@ pub fn shape(alloc: Global, text: &[u8]) -> Result<Shape, ReadLine>
     }
 }
 
+/// The relation that a word names.
+fn relation_of(name: &[u8]) -> Option<Pred>
+    ensures { result ≡ relation_of name.now }
+{
+    if name == b"intersects".as_slice() {
+        return Some(Pred::Intersects);
+    }
+    if name == b"contains".as_slice() {
+        return Some(Pred::Contains);
+    }
+    if name == b"within".as_slice() {
+        return Some(Pred::Within);
+    }
+    if name == b"equals".as_slice() {
+        return Some(Pred::Equals);
+    }
+    if name == b"touches".as_slice() {
+        return Some(Pred::Touches);
+    }
+    None
+}
+
+fn bound_in(number: Option<u64>) -> Result<u32, ReadLine>
+    ensures gives { Gives (λ n. n) result (bound_in number) }
+    ensures below { IfOk result (λ n. n ≤ 64000000) }
+{
+    match number {
+        Some(n) if n <= 64_000_000 => Ok(n as u32),
+        _ => Err(ReadLine::Fault(ScriptKind::Number)),
+    }
+}
+
+fn bound_from(number: Option<i64>) -> Result<u32, ReadLine>
+    ensures gives { Gives (λ n. n) result (bound_from number) }
+    ensures below { IfOk result (λ n. n ≤ 64000000) }
+{
+    match number {
+        Some(n) => bound_in(natural(n)),
+        None => Err(ReadLine::Fault(ScriptKind::Number)),
+    }
+}
+
+/// Whether the bound itself is left out, and the text after the comparison.
+#[tactic(auto, unfolding(crate::specs::Grammar::comparison))]
+fn comparison(text: &[u8]) -> Result<(bool, &[u8]), ReadLine>
+    ensures { Gives (λ r. (r.0, r.1.now)) result (comparison text.now) }
+{
+    let (field, rest) = first_field(text);
+    if field == b"<".as_slice() {
+        return Ok((true, rest));
+    }
+    if field == b"<=".as_slice() {
+        return Ok((false, rest));
+    }
+    Err(ReadLine::Fault(ScriptKind::Word))
+}
+
+/// A comparison and a bound of distances, and the text after them.
+#[tactic(auto, unfolding(crate::specs::Grammar::distance))]
+fn distance(text: &[u8]) -> Result<(Test, &[u8]), ReadLine>
+    ensures gives { Gives (λ r. (r.0, r.1.now)) result (distance text.now) }
+    ensures sound { IfOk result (λ r. IsSoundTest r.0) }
+{
+    match comparison(text) {
+        Ok((strict, rest)) => {
+            let (field, rest) = first_field(rest);
+            match bound_from(number(field)) {
+                Ok(bound) => Ok((Test::Near { bound, strict }, rest)),
+                Err(fault) => Err(fault),
+            }
+        }
+        Err(fault) => Err(fault),
+    }
+}
+
 /// A test of rows against a shape, and the text after it.
 #[tactic(auto, unfolding(crate::specs::Grammar::test_of))]
 pub fn test_of(text: &[u8]) -> Result<(Test, &[u8]), ReadLine>
-    ensures { Gives (λ r. (r.0, r.1.now)) result (test_of text.now) }
+    ensures gives { Gives (λ r. (r.0, r.1.now)) result (test_of text.now) }
+    ensures sound { IfOk result (λ r. IsSoundTest r.0) }
 {
     let (field, rest) = first_field(text);
-    if field == b"intersects".as_slice() {
-        Ok((Test::Relate(Pred::Intersects), rest))
-    } else {
-        Err(ReadLine::Fault(ScriptKind::Word))
+    match relation_of(field) {
+        Some(pred) => Ok((Test::Relate(pred), rest)),
+        None => {
+            if field == b"distance".as_slice() {
+                return distance(rest);
+            }
+            Err(ReadLine::Fault(ScriptKind::Word))
+        }
     }
 }

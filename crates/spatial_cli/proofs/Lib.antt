@@ -1,5 +1,3 @@
-pub mod Equal
-pub mod PointLemmas
 pub mod PlayLemmas
 pub mod OrderLemmas
 pub mod RunLemmas

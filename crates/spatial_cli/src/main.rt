@@ -3,8 +3,11 @@
 
 mod laws;
 mod player;
-mod points;
 mod program;
+#[cfg(test)]
+mod shape_tests;
+#[cfg(test)]
+mod statement_tests;
 mod status;
 #[cfg(test)]
 mod tests;

@@ -8,10 +8,10 @@ ghost use Rattle.spatial_cli.specs.Statuses.{message_of, status_of};
 ghost use Rattle.spatial_cli.specs.Words.{form_of};
 
 use crate::player::play;
-use crate::points::PointJudge;
 use crate::status::{Ending, Status};
 use crate::words::{Form, Words};
 use sg_io::{ReadEnd, Sink, Source, read_all, write_all};
+use sg_relate::Relate;
 use sg_report::report;
 use sg_script::{ReadScript, read_script};
 use std::alloc::{AllocError, Global};
@@ -164,7 +164,7 @@ fn replayed(alloc: Global, bytes: &[u8]) -> Result<Vec<u8>, Unplayed>
         Err(ReadScript::Fault(_)) => return Err(Unplayed::Refused),
         Err(ReadScript::OutOfMemory) => return Err(Unplayed::OutOfMemory),
     };
-    let run = match play(alloc, &PointJudge, &script) {
+    let run = match play(alloc, &Relate, &script) {
         Ok(run) => run,
         Err(AllocError) => return Err(Unplayed::OutOfMemory),
     };

@@ -40,7 +40,7 @@ fn sink(alloc: Global) -> Result<MemorySink, Fail> {
 }
 
 /// A script is played, and the text that is printed is this one.
-fn prints(rt: &impl Abort, alloc: Global, script: &[u8], text: &[u8]) -> Result<(), Fail> {
+pub fn prints(rt: &impl Abort, alloc: Global, script: &[u8], text: &[u8]) -> Result<(), Fail> {
     let mut source = source(alloc, script)?;
     let mut out = sink(alloc)?;
     let mut err = sink(alloc)?;

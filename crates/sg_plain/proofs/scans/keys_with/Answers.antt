@@ -1,20 +1,20 @@
-use Rattle.std.proofs.Common.{get_or, drop_of_length-le}
+use Rattle.std.proofs.Common.{drop_of_length-le}
 use Rattle.sg_plain.specs.Sat.{Sat}
 use Rattle.sg_plain.proofs.Collects.{SoFar-above, SoFar-step, SoFar-end}
-use Rattle.sg_plain.proofs.PlaceLemmas.{no_row, row_read}
+use Rattle.sg_plain.proofs.PlaceLemmas.{row_is}
 use Rattle.sg_plain.proofs.scans.keys_with.Goals as goal
 
 pub take_row-requires-clause-above : goal.take_row-requires-clause-above
 take_row-requires-clause-above g c =
     let at = c.loop-row.row-index in
-    SoFar-above (λ row. Sat c.args.test row c.args.shape.now) c.args.rows.now at (get_or c.args.rows.now at no_row) c.loop-row.keys
-    c.loop-row-test.true (row_read c.args.rows.now at c.loop-row-test.true) c.loop-row.invariant
+    SoFar-above (λ row. Sat c.args.test row c.args.shape.now) c.args.rows.now at c.row-item.result c.loop-row.keys
+    c.loop-row-test.true (row_is c.args.rows.now at c.row-item.result _ c.loop-row-test.true c.row-item.is) c.loop-row.invariant
 
 pub loop-row-preserved : goal.loop-row-preserved
 loop-row-preserved g c =
     let at = c.loop-row.row-index in
-    SoFar-step (λ row. Sat c.args.test row c.args.shape.now) c.args.rows.now at (get_or c.args.rows.now at no_row) c.loop-row.keys c.take_row.new.keys
-    c.loop-row-test.true (row_read c.args.rows.now at c.loop-row-test.true) c.in_ok-take_row.ensures c.loop-row.invariant
+    SoFar-step (λ row. Sat c.args.test row c.args.shape.now) c.args.rows.now at c.row-item.result c.loop-row.keys c.take_row.new.keys
+    c.loop-row-test.true (row_is c.args.rows.now at c.row-item.result _ c.loop-row-test.true c.row-item.is) c.in_ok-take_row.ensures c.loop-row.invariant
 
 pub returns : goal.returns
 returns g c =

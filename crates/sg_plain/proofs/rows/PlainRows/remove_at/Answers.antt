@@ -5,8 +5,9 @@ use Rattle.std.specs.List.{remove}
 use Rattle.sg_plain.proofs.Lookups.{AreRows-without_key}
 use Rattle.sg_plain.proofs.PlaceLemmas.{without_key-at}
 use Rattle.sg_plain.proofs.rows.PlainRows.remove_at.Goals as goal
+use Rattle.sg_plain.proofs.rows.PlainRows.remove_at.Goals.{Joined-remove}
 
-removed : (c : goal.After-remove) → c.remove.new.self.items ≡ without_key (key_at c.args.self.now c.args.place) c.args.self.now
+removed : (c : Joined-remove) → c.remove.new.self.items ≡ without_key (key_at c.args.self.now c.args.place) c.args.self.now
 removed c =
     c.remove.ensures.items
     ∙ (ap (λ (rows : Rows). remove rows c.args.place) c.self.view_is

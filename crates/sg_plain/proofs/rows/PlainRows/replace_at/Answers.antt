@@ -4,8 +4,9 @@ use Rattle.sg_plain.specs.Places.{key_at}
 use Rattle.sg_plain.proofs.Lookups.{AreRows-put}
 use Rattle.sg_plain.proofs.PlaceLemmas.{set-at}
 use Rattle.sg_plain.proofs.rows.PlainRows.replace_at.Goals as goal
+use Rattle.sg_plain.proofs.rows.PlainRows.replace_at.Goals.{Joined-index_mut-shape}
 
-replaced : (c : goal.After-self-1) → set c.self.inside.rows.items c.args.place (c.index_mut.result.now.0, c.args.shape) ≡ put (key_at c.args.self.now c.args.place) c.args.shape c.args.self.now
+replaced : (c : Joined-index_mut-shape) → set c.self.inside.rows.items c.args.place (c.index_mut.result.now.0, c.args.shape) ≡ put (key_at c.args.self.now c.args.place) c.args.shape c.args.self.now
 replaced c =
     let rows = c.self.inside.rows.items in
     let within : c.args.place < length rows = subst (λ (all : Rows). c.args.place < length all) (sym c.self.view_is) c.requires.within in
