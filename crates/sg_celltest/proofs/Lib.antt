@@ -1,0 +1,5 @@
+pub mod Rectangle
+pub mod Insides
+pub mod Thirds
+pub mod Outside
+pub mod Found

@@ -1,0 +1,94 @@
+ghost use Rattle.std.specs.Prelude.{◌≡◌, ◌↔◌, IsTrue, IfOk, false};
+ghost use Rattle.sg_shape.specs.Grown.{as_shape, by_sides};
+ghost use Rattle.sg_shape.specs.Matrix.{IsMatrix};
+ghost use Rattle.sg_shape.specs.Sound.{IsSound};
+ghost use Rattle.sg_celltest.specs.Pieces.{in_piece, IsPiece, Finds, is_found};
+
+use sg_shape::{Bounds, Judge, Matrix, Path, Rings, Shape, Spot};
+use std::alloc::{AllocError, Global};
+
+/// What is sought in a piece.
+#[derive(Clone, Copy)]
+pub(crate) enum Sought {
+    /// A point of the shape.
+    Held,
+    /// A point that isn't one of the shape.
+    Missing,
+}
+
+/// Whether some point of the piece is sought.
+pub(crate) fn finds_inside<J: Judge>(
+    judge: &J,
+    alloc: Global,
+    shape: &Shape,
+    piece: Bounds,
+    sought: Sought,
+) -> Result<bool, AllocError>
+    requires sound { IsSound shape.now }
+    requires piece { IsPiece piece }
+    ensures { IfOk result (λ found. IsTrue found ↔ Finds sought shape.now (in_piece piece)) }
+{
+    let solid = as_shape(alloc, piece)?;
+    let matrix = judge.relate(alloc, &solid, shape)?;
+    Ok(is_found(matrix, sought))
+}
+
+/// Whether some point inside the first shape is sought in the second.
+fn is_found(matrix: Matrix, sought: Sought) -> bool
+    ensures { result ≡ is_found matrix sought }
+{
+    match sought {
+        Sought::Held => matrix.ii || matrix.ib,
+        Sought::Missing => matrix.io,
+    }
+}
+
+/// The shape whose inside is the piece.
+fn as_shape(alloc: Global, bounds: Bounds) -> Result<Shape, AllocError>
+    requires { IsPiece bounds }
+    ensures same { IfOk result (λ shape. shape ≡ as_shape bounds) }
+    ensures sound { IfOk result (λ shape. IsSound shape) }
+{
+    let low = Spot {
+        x: bounds.xmin,
+        y: bounds.ymin,
+    };
+    let high = Spot {
+        x: bounds.xmax,
+        y: bounds.ymax,
+    };
+    match (bounds.xmin == bounds.xmax, bounds.ymin == bounds.ymax) {
+        (true, true) => Ok(Shape::Point(low)),
+        (true, false) | (false, true) => Ok(Shape::Line(path_of(alloc, &[low, high])?)),
+        (false, false) => ring_around(alloc, low, high),
+    }
+}
+
+fn path_of(alloc: Global, spots: &[Spot]) -> Result<Path, AllocError>
+    ensures { IfOk result (λ path. path ≡ spots.now) }
+{
+    let mut path = Path::new(alloc);
+    for spot in spots {
+        path.push(*spot)?;
+    }
+    Ok(path)
+}
+
+fn ring_around(alloc: Global, low: Spot, high: Spot) -> Result<Shape, AllocError>
+    ensures { IfOk result (λ shape. shape ≡ by_sides false false (record { xmin = low.x; ymin = low.y; xmax = high.x; ymax = high.y })) }
+{
+    let low_right = Spot {
+        x: high.x,
+        y: low.y,
+    };
+    let high_left = Spot {
+        x: low.x,
+        y: high.y,
+    };
+    let ring = path_of(alloc, &[low, low_right, high, high_left, low])?;
+    let mut rings = Rings::new(alloc);
+    match rings.push(ring) {
+        Ok(()) => Ok(Shape::Polygon(rings)),
+        Err(_back) => Err(AllocError),
+    }
+}

@@ -1,0 +1,4 @@
+pub mod Within
+pub mod Looks
+pub mod Steps
+pub mod Listing
