@@ -8,3 +8,4 @@ pub mod Rising
 pub mod Whole
 pub mod Front
 pub mod Queue
+pub mod Disjoint

@@ -26,7 +26,7 @@ use Rattle.sg_heights.proofs.Sorted.{total-permutation}
 use Rattle.sg_heights.specs.Stops.{total}
 use Rattle.std.specs.List.Sorted.{IsPermutation}
 use Rattle.std.proofs.Common.{◌++◌}
-use Rattle.sg_sweep.specs.Rungs.{Each, ends, NoneAbove, Covers, PartsMeet, is_full}
+use Rattle.sg_sweep.specs.Rungs.{Each, ends, NoneAbove, Covers, PartsMeet, IsWanted, has, has_all}
 use Rattle.sg_sweep.proofs.Rising.{outside_low, outside_high}
 
 times_one : (a : ℤ) → a *ℤ pos 1 ≡ a
@@ -146,7 +146,7 @@ high_point a b all act wait t d pd c s n p h =
 not_above_self : (z : ℤ) → z ≤ℤ z
 not_above_self z = omega (arith, sums)
 
-abbrev bottom_point : Point
+abbrev pub bottom_point : Point
 bottom_point = record { x = pos 0; y = bottom_height; n = 1; is_over = lit≤ tt }
 
 pub met_all : (a b : Parts) (ps : List Piece) (act wait : List Tag) (m : Matrix) (t d : ℤ) → pos 0 <ℤ d → Covers a b (tags ps) → Stands (tags ps) act wait t d → NoneAbove (act ++ wait) t d → MetUpTo a b m t d →
@@ -166,25 +166,31 @@ met_all a b ps act wait m t d pd c s n u i j = (λ h. to ((u i j).0 h), λ q. (u
 three : (a b c : Bool) → (a && (b && c)) ≡ true → (a ≡ true) × (b ≡ true) × (c ≡ true)
 three a b c e = let r = right_true a (b && c) e in (left_true a (b && c) e, left_true b c r, right_true b c r)
 
-full-entry : (m : Matrix) → is_full m ≡ true → (i j : Status) → IsTrue (entry i j m)
-full-entry m e =
-    let r = three (m.ii && (m.ib && m.io)) (m.bi && (m.bb && m.bo)) (m.oi && (m.ob && m.oo)) e in
-    by_rows (three m.ii m.ib m.io r.0) (three m.bi m.bb m.bo r.1) (three m.oi m.ob m.oo r.2)
+has-entry : (x y : Bool) → has x y ≡ true → IsTrue y → IsTrue x
+has-entry true y e h = refl
+has-entry false true e h = absurd (cc)
+has-entry false false e h = h
+
+full-entry : (m w : Matrix) → has_all m w ≡ true → (i j : Status) → IsTrue (entry i j w) → IsTrue (entry i j m)
+full-entry m w e =
+    let r = three (has m.ii w.ii && (has m.ib w.ib && has m.io w.io)) (has m.bi w.bi && (has m.bb w.bb && has m.bo w.bo)) (has m.oi w.oi && (has m.ob w.ob && has m.oo w.oo)) e in
+    by_rows (three (has m.ii w.ii) (has m.ib w.ib) (has m.io w.io) r.0) (three (has m.bi w.bi) (has m.bb w.bb) (has m.bo w.bo) r.1) (three (has m.oi w.oi) (has m.ob w.ob) (has m.oo w.oo) r.2)
   where
-    by_rows : (m.ii ≡ true) × (m.ib ≡ true) × (m.io ≡ true) → (m.bi ≡ true) × (m.bb ≡ true) × (m.bo ≡ true) → (m.oi ≡ true) × (m.ob ≡ true) × (m.oo ≡ true) → (i j : Status) → IsTrue (entry i j m)
-    by_rows r s t In In = r.0
-    by_rows r s t In Bd = r.1
-    by_rows r s t In Out = r.2
-    by_rows r s t Bd In = s.0
-    by_rows r s t Bd Bd = s.1
-    by_rows r s t Bd Out = s.2
-    by_rows r s t Out In = t.0
-    by_rows r s t Out Bd = t.1
-    by_rows r s t Out Out = t.2
+    by_rows : (has m.ii w.ii ≡ true) × (has m.ib w.ib ≡ true) × (has m.io w.io ≡ true) → (has m.bi w.bi ≡ true) × (has m.bb w.bb ≡ true) × (has m.bo w.bo ≡ true) →
+        (has m.oi w.oi ≡ true) × (has m.ob w.ob ≡ true) × (has m.oo w.oo ≡ true) → (i j : Status) → IsTrue (entry i j w) → IsTrue (entry i j m)
+    by_rows r s t In In = has-entry m.ii w.ii r.0
+    by_rows r s t In Bd = has-entry m.ib w.ib r.1
+    by_rows r s t In Out = has-entry m.io w.io r.2
+    by_rows r s t Bd In = has-entry m.bi w.bi s.0
+    by_rows r s t Bd Bd = has-entry m.bb w.bb s.1
+    by_rows r s t Bd Out = has-entry m.bo w.bo s.2
+    by_rows r s t Out In = has-entry m.oi w.oi t.0
+    by_rows r s t Out Bd = has-entry m.ob w.ob t.1
+    by_rows r s t Out Out = has-entry m.oo w.oo t.2
 
 -- what was met is met, and there is nothing more to meet
-pub met_full : (a b : Parts) (ps : List Piece) (m : Matrix) (t d : ℤ) → Covers a b (tags ps) → MetUpTo a b m t d → is_full m ≡ true → (i j : Status) → IsTrue (entry i j m) ↔ PartsMeet i j a b
-met_full a b ps m t d c u e i j = (λ h. to ((u i j).0 h), λ q. full-entry m e i j)
+pub met_wanted : (a b : Parts) (ps : List Piece) (m w : Matrix) (t d : ℤ) → Covers a b (tags ps) → MetUpTo a b m t d → has_all m w ≡ true → IsWanted w a b → (i j : Status) → IsTrue (entry i j m) ↔ PartsMeet i j a b
+met_wanted a b ps m w t d c u e f i j = (λ h. to ((u i j).0 h), λ q. full-entry m w e i j (f i j q))
   where
     to : BothOut i j ⊎ UpTo a b i j t d → PartsMeet i j a b
     to (inl h) = let r = low_point a b ps c bottom_point (not_above_self (bottom_height *ℤ pos 1)) in (bottom_point, r.0 ∙ sym h.0, r.1 ∙ sym h.1)

@@ -1,3 +1,4 @@
 pub mod Pieces
 pub mod Rungs
 pub mod Fronts
+pub mod Disjoint

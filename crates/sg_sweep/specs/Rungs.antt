@@ -1,10 +1,11 @@
 -- The heights at which a sweep stops: those of spots, and those at which neighbours cross.
-use Rattle.std.specs.Prelude.{◌≡◌, ◌⊎◌, ℕ, ◌+◌, Bool, cond, ◌&&◌, List, [], ◌∷◌, ◌++◌, Option, Some, None, ℤ, pos, ◌*ℤ◌, ◌<ℤ◌, ◌≤ℤ◌}
+use Rattle.std.specs.Prelude.{◌≡◌, ◌⊎◌, ℕ, ◌+◌, Bool, cond, not, ◌&&◌, ◌||◌, List, [], ◌∷◌, ◌++◌, Option, Some, None, ℤ, pos, ◌*ℤ◌, ◌<ℤ◌, ◌≤ℤ◌, IsTrue}
 use lib.Signed.{lt_z, le_z}
 use Rattle.sg_segment.specs.declared.figures.Pass.{Pass}
 use Rattle.sg_segment.specs.declared.figures.Ratio.{Ratio}
 use Rattle.sg_heights.specs.Fans.{lean, apart, Uncrossed}
 use Rattle.sg_heights.specs.Stops.{AllNext, SomeNext, total, ind}
+use Rattle.sg_heights.specs.Tallies.{entry}
 use Rattle.sg_heights.proofs.Above.{edge_lines}
 use Rattle.sg_heights.proofs.Seen.{One}
 use Rattle.sg_heights.proofs.Statuses.{both_layers}
@@ -88,6 +89,15 @@ pub record Covers (a b : Parts) (gs : List Tag) : Type 0 where
 abbrev pub PartsMeet : Status → Status → Parts → Parts → Type 0
 PartsMeet i j a b = (p : Point) × (status a p ≡ i) × (status b p ≡ j)
 
--- each entry is set
-abbrev pub is_full : Matrix → Bool
-is_full m = (m.ii && (m.ib && m.io)) && ((m.bi && (m.bb && m.bo)) && (m.oi && (m.ob && m.oo)))
+-- each pair of statuses that some point has is wanted
+abbrev pub IsWanted : Matrix → Parts → Parts → Type 0
+IsWanted wanted a b = (i j : Status) → PartsMeet i j a b → IsTrue (entry i j wanted)
+
+-- each wanted entry is set
+abbrev pub has : Bool → Bool → Bool
+has met wanted = met || not wanted
+
+abbrev pub has_all : Matrix → Matrix → Bool
+has_all m w =
+    (has m.ii w.ii && (has m.ib w.ib && has m.io w.io))
+    && ((has m.bi w.bi && (has m.bb w.bb && has m.bo w.bo)) && (has m.oi w.oi && (has m.ob w.ob && has m.oo w.oo)))

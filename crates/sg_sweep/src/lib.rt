@@ -6,9 +6,11 @@
 //! neighbours alone: two that cross are neighbours just below their crossing.
 #![tactic(auto)]
 
+mod boxes;
 mod crossings;
 mod fronts;
 mod levels;
+mod matrices;
 mod parts;
 mod pieces;
 mod sorting;
@@ -16,7 +18,7 @@ mod spots;
 mod stops;
 mod sweep;
 
-pub use sweep::statuses;
+pub use matrices::statuses;
 
 #[cfg(test)]
 mod tests;

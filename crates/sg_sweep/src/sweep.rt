@@ -1,13 +1,14 @@
-ghost use Rattle.std.specs.Prelude.{◌≡◌, ◌↔◌, ◌⊎◌, ◌<◌, ◌*ℤ◌, ◌<ℤ◌, ◌&&◌, ◌++◌, List, pos, IsTrue, IfOk, OnOk};
+ghost use Rattle.std.specs.Prelude.{◌≡◌, ◌↔◌, ◌⊎◌, ◌<◌, ◌*ℤ◌, ◌<ℤ◌, ◌&&◌, ◌||◌, ◌++◌, not, List, pos, IsTrue, IfOk, OnOk};
 ghost use Rattle.sg_segment.specs.Ranges.{IsRatio};
 ghost use Rattle.sg_shape.specs.Matrix.{IsMatrix};
 ghost use Rattle.sg_shape.specs.Plane.{Parts, Status};
+ghost use Rattle.sg_shape.specs.Shapes.{parts_of};
 ghost use Rattle.sg_shape.specs.Sound.{IsSound};
 ghost use Rattle.sg_heights.proofs.Climb.{AtHeight, InSlab};
 ghost use Rattle.sg_heights.specs.Tallies.{entry};
 ghost use Rattle.sg_sweep.specs.Pieces.{Tag, tags};
 ghost use Rattle.sg_sweep.specs.Fronts.{IsRising, Stands};
-ghost use Rattle.sg_sweep.specs.Rungs.{IsNextSpot, Covers, rungs_left, PartsMeet, is_full};
+ghost use Rattle.sg_sweep.specs.Rungs.{IsNextSpot, Covers, rungs_left, PartsMeet, IsWanted, has_all};
 
 use crate::crossings::first_crossing;
 use crate::fronts::{count_begun, first_of, front_at, rest_of};
@@ -70,21 +71,40 @@ fn all(a: bool, b: bool, c: bool) -> bool
     a && b && c
 }
 
-/// Whether all pairs were met, so that nothing is left to be entered.
-fn is_full(met: &Matrix) -> bool
-    ensures { result ≡ is_full met.now }
+/// Whether a pair was met, if it is wanted.
+fn has(met: bool, wanted: bool) -> bool
+    ensures { result ≡ (met || not wanted) }
 {
-    let first = all(met.ii, met.ib, met.io);
-    let second = all(met.bi, met.bb, met.bo);
-    let third = all(met.oi, met.ob, met.oo);
+    met || !wanted
+}
+
+/// Whether all wanted pairs were met, so that nothing is left to be entered.
+fn has_all(met: &Matrix, wanted: Matrix) -> bool
+    ensures { result ≡ has_all met.now wanted }
+{
+    let first = all(
+        has(met.ii, wanted.ii),
+        has(met.ib, wanted.ib),
+        has(met.io, wanted.io),
+    );
+    let second = all(
+        has(met.bi, wanted.bi),
+        has(met.bb, wanted.bb),
+        has(met.bo, wanted.bo),
+    );
+    let third = all(
+        has(met.oi, wanted.oi),
+        has(met.ob, wanted.ob),
+        has(met.oo, wanted.oo),
+    );
     all(first, second, third)
 }
 
 /// The matrix of what these are the edges of, which come by rising lower ends: by heights from below upwards, with the
-/// pieces at hand that reach each height.
-fn sweep(alloc: Global, pieces: &[Piece]) -> Result<Matrix, AllocError>
+/// pieces at hand that reach each height. It ends early once all wanted pairs are met, where points have no others.
+fn sweep(alloc: Global, pieces: &[Piece], wanted: Matrix) -> Result<Matrix, AllocError>
     requires { IsRising (tags pieces.now) }
-    ensures { (a b : Parts) (i j : Status) → Covers a b (tags pieces.now) → IfOk result (λ met. IsTrue (entry i j met) ↔ PartsMeet i j a b) }
+    ensures { (a b : Parts) (i j : Status) → Covers a b (tags pieces.now) → IsWanted wanted a b → IfOk result (λ met. IsTrue (entry i j met) ↔ PartsMeet i j a b) }
 {
     let mut met = Matrix {
         ii: false,
@@ -104,7 +124,7 @@ fn sweep(alloc: Global, pieces: &[Piece]) -> Result<Matrix, AllocError>
     let mut active = Vec::new(alloc);
     let mut begun = 0;
     while let Some(y) = next_spot(&active, rest_of(pieces, begun), height) {
-        if is_full(&met) {
+        if has_all(&met, wanted) {
             return Ok(met);
         }
         height = walk_slab(alloc, &active, height, whole(y), &mut met)?;
@@ -117,14 +137,14 @@ fn sweep(alloc: Global, pieces: &[Piece]) -> Result<Matrix, AllocError>
     Ok(met)
 }
 
-/// Which statuses the points of the plane have in both shapes: for each pair of statuses whether some point has it. Exact
-/// for all sound shapes. `Err` comes for want of memory alone.
-pub fn statuses(alloc: Global, a: &Shape, b: &Shape) -> Result<Matrix, AllocError>
+/// The matrix of two shapes, by a sweep of both. Points have no other pairs of statuses than the wanted ones.
+pub fn swept(alloc: Global, a: &Shape, b: &Shape, wanted: Matrix) -> Result<Matrix, AllocError>
     requires first { IsSound a.now }
     requires second { IsSound b.now }
+    requires wanted { IsWanted wanted (parts_of a.now) (parts_of b.now) }
     ensures { IfOk result (λ matrix. IsMatrix matrix a.now b.now) }
 {
     let mut pieces = pieces_of(alloc, a, b)?;
     sort_pieces(&mut pieces)?;
-    sweep(alloc, &pieces)
+    sweep(alloc, &pieces, wanted)
 }

@@ -6,7 +6,7 @@ use Rattle.sg_sweep.specs.Pieces.{tags}
 use Rattle.sg_sweep.specs.Rungs.{IsNextSpot}
 use Rattle.sg_sweep.specs.Fronts.{IsRising}
 use Rattle.sg_sweep.proofs.Front.{rising-drop, front-stands, front-less, next-same, stands-same, kept-same, less-same, none-same, within-more}
-use Rattle.sg_sweep.proofs.Whole.{met_bottom, met_next, met_all, met_full, stands_bottom, bottom_height}
+use Rattle.sg_sweep.proofs.Whole.{met_bottom, met_next, met_all, met_wanted, stands_bottom, bottom_height}
 use Rattle.sg_sweep.proofs.sweep.sweep.Goals as goal
 
 pub loop-y-init : goal.loop-y-init
@@ -20,9 +20,9 @@ loop-y-init c = record {
 pub next_spot-requires-clause-rising : goal.next_spot-requires-clause-rising
 next_spot-requires-clause-rising c = subst (λ (ps : List Piece). IsRising (tags ps)) (sym c.rest_of.ensures) (rising-drop c.loop-y.begun c.args.pieces.now c.requires)
 
-pub returns-then-is_full : goal.returns-then-is_full
-returns-then-is_full c = λ a b i j cov.
-    met_full a b c.args.pieces.now c.loop-y.met c.loop-y.height.top c.loop-y.height.bottom cov (c.loop-y.invariant.met a b cov) (sym c.is_full.ensures ∙ c.if-is_full.true) i j
+pub returns-then-has_all : goal.returns-then-has_all
+returns-then-has_all c = λ a b i j cov want.
+    met_wanted a b c.args.pieces.now c.loop-y.met c.args.wanted c.loop-y.height.top c.loop-y.height.bottom cov (c.loop-y.invariant.met a b cov) (sym c.has_all.ensures ∙ c.if-has_all.true) want i j
 
 pub loop-y-preserved : goal.loop-y-preserved
 loop-y-preserved c =
@@ -59,7 +59,7 @@ loop-y-smaller c =
     (c.in_ok-height.ensures.fewer (tags (drop c.loop-y.begun c.args.pieces.now)) nx))
 
 pub returns : goal.returns
-returns c = λ a b i j cov.
+returns c = λ a b i j cov want.
     met_all a b c.args.pieces.now (tags c.loop-y.active.items) (tags (drop c.loop-y.begun c.args.pieces.now)) c.loop-y.met c.loop-y.height.top c.loop-y.height.bottom c.loop-y.invariant.range.is_over cov c.loop-y.invariant.stands
     (none-same c.deref.result.now c.loop-y.active.items c.rest_of.result.now (drop c.loop-y.begun c.args.pieces.now) c.loop-y.height.top c.loop-y.height.bottom c.deref.ensures.value c.rest_of.ensures c.in_default.ensures.next)
     (c.loop-y.invariant.met a b cov) i j

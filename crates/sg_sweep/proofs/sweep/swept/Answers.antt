@@ -10,7 +10,7 @@ use Rattle.sg_sweep.specs.declared.pieces.Piece.{Piece}
 use Rattle.sg_sweep.specs.Pieces.{tags}
 use Rattle.sg_sweep.specs.Rungs.{Covers, PartsMeet}
 use Rattle.sg_sweep.proofs.Whole.{shapes_covered, matrix_is}
-use Rattle.sg_sweep.proofs.sweep.statuses.Goals as goal
+use Rattle.sg_sweep.proofs.sweep.swept.Goals as goal
 
 if_ok : {E : Type 0} (a b : Shape) (r : Result Matrix E) → ((i j : Status) → IfOk r (λ m. IsTrue (entry i j m) ↔ PartsMeet i j (parts_of a) (parts_of b))) → IfOk r (λ m. IsMatrix m a b)
 if_ok a b (Ok m) f = matrix_is a b m f
@@ -21,4 +21,5 @@ returns c =
     if_ok c.args.a.now c.args.b.now c.sweep.result (λ i j.
     c.sweep.ensures (parts_of c.args.a.now) (parts_of c.args.b.now) i j
     (subst (λ (ps : List Piece). Covers (parts_of c.args.a.now) (parts_of c.args.b.now) (tags ps)) (sym c.deref.ensures.value)
-    (shapes_covered c.args.a.now c.args.b.now (tags c.in_ok-pieces.pieces.items) c.sort_pieces.new.pieces.items c.in_ok-pieces.ensures c.sort_pieces.ensures.permutation)))
+    (shapes_covered c.args.a.now c.args.b.now (tags c.in_ok-pieces.pieces.items) c.sort_pieces.new.pieces.items c.in_ok-pieces.ensures c.sort_pieces.ensures.permutation))
+    c.requires.wanted)
