@@ -144,16 +144,18 @@ impl<K: Ord + Copy, V> Pages<K, V> {
     }
 
     /// Takes the key and its value out; `None` exactly where the key isn't there. It takes no
-    /// memory, and no room is lost.
+    /// memory, no room is lost, and a key taken out leaves room for another.
     pub fn remove(&mut self, key: &K) -> Option<V>
         ensures pairs { self.new.pairs ≡ remove_entry (is_at (K.cmp key.now)) self.old.pairs }
         ensures value { result ≡ lookup (is_at (K.cmp key.now)) self.old.pairs }
         ensures spare { self.old.spare ≤ self.new.spare }
+        ensures freed { IsSome result → self.old.spare + 1 ≤ self.new.spare }
         ensures rising { HasRisingKeys K.cmp self.new.pairs }
     {
         match search(self.pairs.as_slice(), key) {
             Ok(at) => {
                 let (_, value) = self.pairs.remove(at);
+                self.spare += 1;
                 Some(value)
             }
             Err(_) => None,
