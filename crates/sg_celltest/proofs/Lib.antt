@@ -3,3 +3,4 @@ pub mod Insides
 pub mod Thirds
 pub mod Outside
 pub mod Found
+pub mod Closed

@@ -1,5 +1,5 @@
 -- Boxes in pieces, each the inside of a shape, and what is sought in one.
-use Rattle.std.specs.Prelude.{ℕ, Bool, not, cond, ◌&&◌, ◌||◌, ℤ, pos, ◌*ℤ◌, ◌≤ℤ◌, int_lt, int_le, IsTrue}
+use Rattle.std.specs.Prelude.{ℕ, Bool, true, not, cond, ◌&&◌, ◌||◌, ℤ, pos, ◌*ℤ◌, ◌≤ℤ◌, int_lt, int_le, IsTrue}
 use Rattle.std.proofs.Common.{int_eq}
 use Rattle.sg_shape.specs.declared.bounds.Bounds.{Bounds}
 use Rattle.sg_shape.specs.declared.cells.CellBox.{CellBox}
@@ -46,3 +46,12 @@ is_found m Missing = m.io
 -- the bounds lie in the box with all its edges
 abbrev pub holds_bounds : CellBox → Bounds → Bool
 holds_bounds c b = (int_le c.xlow b.xmin && int_le b.xmax c.xhigh) && (int_le c.ylow b.ymin && int_le b.ymax c.yhigh)
+
+-- the box with all its edges
+abbrev pub closed : CellBox → CellBox
+closed c = record { xlow = c.xlow; ylow = c.ylow; xhigh = c.xhigh; yhigh = c.yhigh; closed_x = true; closed_y = true }
+
+-- whether some point inside or on the boundary of the first shape of a matrix is sought in the second
+abbrev pub may_find : Matrix → Sought → Bool
+may_find m Held = (m.ii || m.ib) || (m.bi || m.bb)
+may_find m Missing = m.io || m.bo

@@ -3,13 +3,31 @@ ghost use Rattle.sg_shape.specs.Boxes.{IsCellBox, within, in_box};
 ghost use Rattle.sg_shape.specs.Sound.{IsSound, coord_ok};
 ghost use Rattle.sg_celltest.specs.Pieces.{is_between, Finds};
 
-use crate::pieces::{Sought, finds_inside};
+use crate::pieces::{Sought, finds_closed, finds_inside};
 use crate::spans::{Span, across, bottom, left, piece, right, top, up};
 use sg_shape::{CellBox, Judge, Shape};
 use std::alloc::{AllocError, Global};
 
-/// Whether some point of the cell is sought.
+/// Whether some point of the cell is sought. Where none of the cell with all its edges is, one matrix tells.
 pub(crate) fn finds<J: Judge>(
+    judge: &J,
+    alloc: Global,
+    shape: &Shape,
+    cell: &CellBox,
+    sought: Sought,
+) -> Result<bool, AllocError>
+    requires sound { IsSound shape.now }
+    requires sides { IsCellBox cell.now }
+    ensures { IfOk result (λ found. IsTrue found ↔ Finds sought shape.now (in_box cell.now)) }
+{
+    if !finds_closed(judge, alloc, shape, cell, sought)? {
+        return Ok(false);
+    }
+    finds_in_pieces(judge, alloc, shape, cell, sought)
+}
+
+/// The same by the pieces of the cell.
+fn finds_in_pieces<J: Judge>(
     judge: &J,
     alloc: Global,
     shape: &Shape,

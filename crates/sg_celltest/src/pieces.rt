@@ -1,10 +1,12 @@
 ghost use Rattle.std.specs.Prelude.{◌≡◌, ◌↔◌, IsTrue, IfOk, false};
+ghost use Rattle.sg_shape.specs.Boxes.{IsCellBox, in_box};
 ghost use Rattle.sg_shape.specs.Grown.{as_shape, by_sides};
 ghost use Rattle.sg_shape.specs.Matrix.{IsMatrix};
 ghost use Rattle.sg_shape.specs.Sound.{IsSound};
-ghost use Rattle.sg_celltest.specs.Pieces.{in_piece, IsPiece, Finds, is_found};
+ghost use Rattle.sg_celltest.specs.Pieces.{in_piece, IsPiece, Finds, is_found, closed, may_find};
 
-use sg_shape::{Bounds, Judge, Matrix, Path, Rings, Shape, Spot};
+use crate::spans::{across, piece, up};
+use sg_shape::{Bounds, CellBox, Judge, Matrix, Path, Rings, Shape, Spot};
 use std::alloc::{AllocError, Global};
 
 /// What is sought in a piece.
@@ -31,6 +33,33 @@ pub(crate) fn finds_inside<J: Judge>(
     let solid = as_shape(alloc, piece)?;
     let matrix = judge.relate(alloc, &solid, shape)?;
     Ok(is_found(matrix, sought))
+}
+
+/// Whether some point of the cell with all its edges is sought.
+pub(crate) fn finds_closed<J: Judge>(
+    judge: &J,
+    alloc: Global,
+    shape: &Shape,
+    cell: &CellBox,
+    sought: Sought,
+) -> Result<bool, AllocError>
+    requires sound { IsSound shape.now }
+    requires sides { IsCellBox cell.now }
+    ensures { IfOk result (λ found. IsTrue found ↔ Finds sought shape.now (in_box (closed cell.now))) }
+{
+    let solid = as_shape(alloc, piece(across(cell), up(cell)))?;
+    let matrix = judge.relate(alloc, &solid, shape)?;
+    Ok(may_find(matrix, sought))
+}
+
+/// Whether some point inside the first shape or on its boundary is sought in the second.
+fn may_find(matrix: Matrix, sought: Sought) -> bool
+    ensures { result ≡ may_find matrix sought }
+{
+    match sought {
+        Sought::Held => (matrix.ii || matrix.ib) || (matrix.bi || matrix.bb),
+        Sought::Missing => matrix.io || matrix.bo,
+    }
 }
 
 /// Whether some point inside the first shape is sought in the second.
