@@ -9,6 +9,10 @@ use Rattle.sg_cells.specs.Cells.{Grid, box_of, id_of, last_of}
 use Rattle.sg_cells.specs.Grids.{grid_fault}
 use Rattle.sg_cells.specs.declared.marks.Mark.TheVariants.{Part, Cover}
 use Rattle.sg_cells.specs.Tess.{Look, tess}
+use Rattle.sg_cells.specs.Queries.{grown}
+use Rattle.sg_shape.specs.declared.spots.Spot.{Spot}
+use Rattle.sg_shape.specs.declared.shapes.Kind.{Kind}
+use Rattle.sg_shape.specs.declared.shapes.Shape.TheVariants as shape
 use Rattle.sg_cells.specs.Ranges.{ranges, cells_of, is_candidate, is_sure}
 
 -- ---- a closed rectangle as a shape
@@ -152,3 +156,21 @@ no_width = (refl, refl)
 -- ---- ids
 ids_of_cells : (id_of 4 [] ≡ 0) × ((id_of 4 (0 ∷ 2 ∷ 0 ∷ 10 ∷ []) ≡ 33556996) × ((last_of 4 (0 ∷ []) ≡ 4294967044) × (last_of 4 [] ≡ 0)))
 ids_of_cells = (refl, (refl, (refl, refl)))
+
+-- ---- shapes that grow
+spot : ℤ → ℤ → Spot
+spot x y = record { x = x; y = y }
+
+empty_stays : (kind : Kind) → grown 5 (shape.Empty kind) ≡ shape.Empty kind
+unfolding grown
+empty_stays kind = refl
+
+point_stays : grown 0 (shape.Point (spot (pos 5) (pos 7))) ≡ shape.Point (spot (pos 5) (pos 7))
+unfolding grown spot
+point_stays = refl
+
+-- a line along x has room in both ways by 3, and is cut on the right
+line_grows : grown 3 (shape.Line (spot (pos 15999999) (pos 7) ∷ spot (pos 10) (pos 7) ∷ []))
+    ≡ shape.Polygon ((spot (pos 7) (pos 4) ∷ spot (pos 16000000) (pos 4) ∷ spot (pos 16000000) (pos 10) ∷ spot (pos 7) (pos 10) ∷ spot (pos 7) (pos 4) ∷ []) ∷ [])
+unfolding grown spot
+line_grows = refl

@@ -14,4 +14,5 @@ pub mod Children
 pub mod Faultless
 pub mod Covered
 pub mod Lawful
+pub mod Grown
 pub mod Examples

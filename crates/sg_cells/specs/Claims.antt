@@ -1,12 +1,15 @@
 -- The laws of cells, of shapes' cells and of ranges, for ids of n levels where n is at hand and of four else.
-use Rattle.std.specs.Prelude.{◌≡◌, ℕ, suc, ◌<◌, true, false, ◌&&◌, ltb, leb, List}
+use Rattle.std.specs.Prelude.{◌≡◌, ◌↔◌, ℕ, suc, ◌<◌, true, false, ◌&&◌, ltb, leb, List}
 use Rattle.sg_shape.specs.declared.shapes.Shape.{Shape}
 use Rattle.sg_shape.specs.Plane.{Point, Parts}
 use Rattle.sg_shape.specs.Shapes.{parts_of}
 use Rattle.sg_shape.specs.Boxes.{in_box}
+use Rattle.sg_shape.specs.Sound.{IsSound}
+use Rattle.sg_shape.specs.Grown.{IsGrown}
 use Rattle.sg_cells.specs.Cells.{Grid, Cell, IsGrid, IsCode, whole, cell_holds, contains, less, id_of, last_of}
 use Rattle.sg_cells.specs.Grids.{HasNoBox}
 use Rattle.sg_cells.specs.Tess.{Entry, Look, Sees, look_at, tess}
+use Rattle.sg_cells.specs.Queries.{grown}
 use Rattle.sg_cells.specs.Ranges.{ranges, in_pairs, related_any, is_candidate, is_sure}
 use Rattle.sg_cells.specs.Laws.{ind, hits, children_of, level, IsDeep, AllCodes, Spread, Steps, Stands, Common}
 
@@ -53,3 +56,8 @@ CommonPointsMakeCandidates =
 
 abbrev pub SureOnesShareAPoint : Type 0
 SureOnesShareAPoint = (g : Grid) (a b : Parts) (rs qs : List Entry) → Stands 4 g a rs → Stands 4 g b qs → is_sure rs qs ≡ true → Common a b
+
+-- ---- queries
+-- of the shapes that a sound shape grows to there is one, which `grown` gives
+abbrev pub GrownIs : Type 0
+GrownIs = (s g : Shape) (d : ℕ) → IsSound s → IsGrown s d g ↔ (g ≡ grown d s)

@@ -2,6 +2,7 @@ pub mod Cells
 pub mod Densities
 pub mod Grids
 pub mod Tess
+pub mod Queries
 pub mod Ranges
 pub mod Laws
 pub mod Lists

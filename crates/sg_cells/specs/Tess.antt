@@ -79,7 +79,3 @@ tess g j limit = outside g j ++ rounds g j limit 1 (length g.sides - 1) (kids g 
 -- the cells of a row's shape: at most the grid's cells per object, but for level 1
 abbrev pub row_cells : Grid → Shape → List Entry
 row_cells g s = tess g (look_at s) g.cells
-
--- the cells that a query looks at: those of its shape under the window
-abbrev pub query_cells : Grid → ℕ → Shape → List Entry
-query_cells g window s = tess g (look_at s) window

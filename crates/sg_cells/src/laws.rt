@@ -1,4 +1,4 @@
-ghost use Rattle.sg_cells.specs.Claims.{LevelsSplitTheBox, ChildrenSplitTheirCell, EmptyCellsHoldNothing, DescendantsAreAnInterval, IdsAreInOrder, LooksAreRight, CellsStandForShapes, LooksAgree, RangesAreRelated, RangesRise, CommonPointsMakeCandidates, SureOnesShareAPoint};
+ghost use Rattle.sg_cells.specs.Claims.{LevelsSplitTheBox, ChildrenSplitTheirCell, EmptyCellsHoldNothing, DescendantsAreAnInterval, IdsAreInOrder, LooksAreRight, CellsStandForShapes, LooksAgree, RangesAreRelated, RangesRise, CommonPointsMakeCandidates, SureOnesShareAPoint, GrownIs};
 
 /// Each point of the closed box lies in exactly one cell of each level, and each other point in cell 0; the
 /// children of a cell split its points; a cell with a side of length 0 has none. A cell's descendants are an
@@ -27,4 +27,10 @@ pub fn range_laws()
     ensures rise { RangesRise }
     ensures candidates { CommonPointsMakeCandidates }
     ensures sure { SureOnesShareAPoint }
+{}
+
+/// A sound shape grows to exactly one shape: its own where it is EMPTY, and else the box of its spots, moved out
+/// and cut at the limits of coordinates. The call does nothing.
+pub fn query_laws()
+    ensures grown { GrownIs }
 {}
