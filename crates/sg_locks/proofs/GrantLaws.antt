@@ -9,7 +9,7 @@ use Rattle.std.specs.Cmp.{IsTotalOrder}
 use Rattle.std.specs.List.{AllByRecursion}
 use Rattle.std.specs.List.Sorted.{IsStrictlySortedBy}
 use Rattle.std.proofs.lemmas.Cmp.{tied_itself}
-use Rattle.sg_locks.specs.Groups.{pair_cmp, HasRisingPairs, has_pair, items_of, is_above, items_above}
+use Rattle.sg_groups.specs.Groups.{pair_cmp, HasRisingPairs, has_pair, items_of, is_above, items_above}
 
 -- ---- tests
 pub is_eq-then : (r t : Ordering) → is_eq (ordering_then r t) ≡ (is_eq r && is_eq t)

@@ -4,14 +4,12 @@
 //! new grants there is room. Memory is taken by `reserve` alone.
 #![tactic(auto)]
 
-mod groups;
-
 ghost use Rattle.std.specs.Prelude.{◌≡◌, ◌+◌, ◌≤◌, [], ◌&&◌, ℕ, false, not, eqb, OnOk};
 ghost use Rattle.sg_modes.specs.Modes.{is_compatible};
 ghost use Rattle.sg_modes.specs.Sessions.{has_session};
 ghost use Rattle.sg_locks.specs.Grants.{has_grant, has_range, blocks, HasRisingGrants, IsUnblocked, AddsGrant, RemovesSession};
 
-use crate::groups::Groups;
+use sg_groups::Groups;
 use sg_modes::{Mode, Session, Sessions, compatible};
 use std::alloc::{AllocError, Global};
 use std::marker::Model;

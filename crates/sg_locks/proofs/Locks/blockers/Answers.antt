@@ -1,6 +1,6 @@
 use Rattle.std.proofs.Common.{◌≡◌, [], ◌∷◌, Some, List, length, ap, ◌∙◌, sym, subst, arith}
 use Rattle.std.specs.Prelude.{ℕ}
-use Rattle.sg_locks.specs.Groups.{items_of, is_above, items_above}
+use Rattle.sg_groups.specs.Groups.{items_of, is_above, items_above}
 use Rattle.sg_locks.proofs.GrantLaws.{items_above-None, found_first, items_rise, none_passes}
 use Rattle.sg_locks.proofs.TableLaws.{holder_cmp, holder_total, IsFoundSoFar, found_none, found_more, found_same, found_all, blocks-items}
 use Rattle.sg_locks.proofs.Locks.blockers.Goals as goal

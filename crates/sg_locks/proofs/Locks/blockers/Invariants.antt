@@ -1,5 +1,5 @@
 use Rattle.std.proofs.Common.{length}
-use Rattle.sg_locks.specs.Groups.{items_of, items_above}
+use Rattle.sg_groups.specs.Groups.{items_of, items_above}
 use Rattle.sg_locks.proofs.TableLaws.{holder_cmp, IsFoundSoFar}
 use Rattle.sg_locks.proofs.Locks.blockers.Given as goal
 

@@ -1,5 +1,5 @@
 use Rattle.std.proofs.Common.{None, ◌∙◌, sym, arith}
-use Rattle.sg_locks.specs.Groups.{is_above}
+use Rattle.sg_groups.specs.Groups.{is_above}
 use Rattle.sg_locks.proofs.GrantLaws.{found_there, nothing_found}
 use Rattle.sg_locks.proofs.TableLaws.{session_cmp, session_total, held_cmp, held_total, dropped-table, others-dropped, released}
 use Rattle.sg_locks.proofs.Locks.release_all.Goals as goal

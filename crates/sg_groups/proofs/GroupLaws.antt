@@ -16,7 +16,7 @@ use Rattle.std.proofs.lemmas.Map.{lookup-remove_entry}
 use Rattle.std.proofs.lemmas.Map.Made.{is_some-lookup}
 use Rattle.std.specs.Map.{keys_of, lookup, lookup_entry, remove_entry}
 use Rattle.std.specs.BTreeMap.{insert_entry, is_at}
-use Rattle.sg_locks.specs.Groups.{pairs_of, with_item, pair_cmp, entry_cmp, HasRisingEntries, HasRisingPairs, has_pair, items_of, is_above, item_in}
+use Rattle.sg_groups.specs.Groups.{pairs_of, with_item, pair_cmp, entry_cmp, HasRisingEntries, HasRisingPairs, has_pair, items_of, is_above, item_in}
 
 pub is_some-copied : {X : Type 0} (r : Option (Bor X)) → is_some (option_copied r) ≡ is_some r
 is_some-copied None = refl

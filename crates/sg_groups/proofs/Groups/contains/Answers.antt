@@ -2,9 +2,9 @@ use Rattle.std.proofs.Common.{Some, sym, ap, ◌∙◌}
 use Rattle.std.specs.Ordering.{is_eq}
 use Rattle.std.specs.Option.{is_some}
 use Rattle.std.proofs.lemmas.Map.Made.{is_some-lookup}
-use Rattle.sg_locks.specs.Groups.{entry_cmp}
-use Rattle.sg_locks.proofs.GroupLaws.{is_some-copied, has_pair_is, rising_pairs}
-use Rattle.sg_locks.proofs.groups.Groups.contains.Goals as goal
+use Rattle.sg_groups.specs.Groups.{entry_cmp}
+use Rattle.sg_groups.proofs.GroupLaws.{is_some-copied, has_pair_is, rising_pairs}
+use Rattle.sg_groups.proofs.Groups.contains.Goals as goal
 
 pub returns-clause-found : goal.returns-clause-found
 returns-clause-found g c =

@@ -1,9 +1,9 @@
 use Rattle.std.proofs.Common.{◌||◌, Some, sym, ap, ◌∙◌}
 use Rattle.std.specs.Ordering.{is_eq}
 use Rattle.std.specs.Map.{keys_of}
-use Rattle.sg_locks.specs.Groups.{entry_cmp, pair_cmp}
-use Rattle.sg_locks.proofs.GroupLaws.{entry_total, has_key, has_key-insert_entry, has_pair_is, rising_pairs}
-use Rattle.sg_locks.proofs.groups.Groups.insert_reserved.Goals as goal
+use Rattle.sg_groups.specs.Groups.{entry_cmp, pair_cmp}
+use Rattle.sg_groups.proofs.GroupLaws.{entry_total, has_key, has_key-insert_entry, has_pair_is, rising_pairs}
+use Rattle.sg_groups.proofs.Groups.insert_reserved.Goals as goal
 
 pub returns-clause-pairs : goal.returns-clause-pairs
 returns-clause-pairs g c = λ a b.

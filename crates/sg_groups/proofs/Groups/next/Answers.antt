@@ -1,6 +1,6 @@
 use Rattle.std.proofs.Common.{ap, ◌∙◌}
-use Rattle.sg_locks.proofs.GroupLaws.{item_found, next_is, rising_pairs}
-use Rattle.sg_locks.proofs.groups.Groups.next.Goals as goal
+use Rattle.sg_groups.proofs.GroupLaws.{item_found, next_is, rising_pairs}
+use Rattle.sg_groups.proofs.Groups.next.Goals as goal
 
 pub returns-in-None-clause-first : goal.returns-in-None-clause-first
 returns-in-None-clause-first g c =
