@@ -1,0 +1,4 @@
+pub mod Mirrors
+pub mod Following
+pub mod NextCells
+pub mod SeenCells

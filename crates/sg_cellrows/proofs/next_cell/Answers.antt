@@ -1,0 +1,11 @@
+use Rattle.sg_cellrows.proofs.NextCells.{none_behind, none_of_row, next_cell_is}
+use Rattle.sg_cellrows.proofs.next_cell.Goals as goal
+
+pub returns-in-None-clause-none : goal.returns-in-None-clause-none
+returns-in-None-clause-none c = none_behind c.args.rows.now.rows c.args.row c.args.above c.in-None.ensures.first
+
+pub returns-then-key-row-clause-next : goal.returns-then-key-row-clause-next
+returns-then-key-row-clause-next c = next_cell_is c.args.rows.now.rows c.args.row c.args.above c.in-Some.ensures.rising (c.in-Some.key.now, c.in-Some.version.now) c.in-Some.ensures.first c.if-key-row.true
+
+pub returns-else-key-row-clause-none : goal.returns-else-key-row-clause-none
+returns-else-key-row-clause-none c = none_of_row c.args.rows.now.rows c.args.row c.args.above c.in-Some.ensures.rising (c.in-Some.key.now, c.in-Some.version.now) c.in-Some.ensures.first c.if-key-row.false

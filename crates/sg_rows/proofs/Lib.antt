@@ -1,0 +1,4 @@
+pub mod SoundRows
+pub mod PastRows
+pub mod Loading
+pub mod Committed

@@ -1,0 +1,8 @@
+use Rattle.std.proofs.Common.{sym, subst}
+use Rattle.sg_versions.specs.declared.version.End.TheVariants.{Undo}
+use Rattle.sg_rows.specs.Table.{AreSoundRows}
+use Rattle.sg_rows.proofs.SoundRows.{sound_settled}
+use Rattle.sg_rows.proofs.Rows.undo.Goals as goal
+
+pub invariant_of-self : goal.invariant_of-self
+invariant_of-self c = subst AreSoundRows (sym c.undo.ensures.rows) (sound_settled Undo c.args.s c.self.inside.versions.rows c.self.invariant)
