@@ -7,8 +7,10 @@ use Rattle.sg_shape.specs.declared.shapes.Shape.{Shape}
 use Rattle.sg_shape.specs.Sound.{IsSound}
 use Rattle.sg_plain.specs.declared.statements.Statement.{Statement}
 use Rattle.sg_plain.specs.declared.statements.Statement.TheVariants.{Insert, Update, Delete, Get, Select, Filter, DeleteWhere}
+use Rattle.sg_plain.specs.declared.statements.Statement.TheVariants as statements
 use Rattle.sg_plain.specs.declared.statements.Answer.{Answer}
 use Rattle.sg_plain.specs.declared.statements.Answer.TheVariants.{Inserted, Duplicate, Done, Missing, Absent, Found, Keys, Deleted}
+use Rattle.sg_plain.specs.declared.statements.Answer.TheVariants as answers
 use Rattle.sg_plain.specs.Rows.{Rows, AreRows, shape_at}
 use Rattle.sg_plain.specs.Replies.{Means, effect}
 use Rattle.sg_plain.specs.Sat.{IsSoundAnswer, IsSoundStatement}
@@ -42,8 +44,10 @@ sound_answer rows (Get k) (Found s) r m = found_sound rows k s r.sound m
 sound_answer rows (Select q) (Found s) r m = absurd m
 sound_answer rows (Filter t) (Found s) r m = absurd m
 sound_answer rows (DeleteWhere q) (Found s) r m = absurd m
+sound_answer rows (statements.Plan q) (Found s) r m = absurd m
 sound_answer rows statement (Keys ks) r m = tt
 sound_answer rows statement (Deleted ks) r m = tt
+sound_answer rows statement (answers.Plan candidates sure refined ks) r m = tt
 
 pub sound_result : {E : Type 0} (rows : Rows) (statement : Statement) (result : Result Answer E) → AreRows rows →
     IfOk result (Means rows statement) → IfOk result IsSoundAnswer

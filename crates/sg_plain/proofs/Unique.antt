@@ -5,10 +5,12 @@ use Rattle.sg_shape.specs.declared.shapes.Shape.{Shape}
 use Rattle.sg_plain.specs.declared.statements.Query.{Query}
 use Rattle.sg_plain.specs.declared.statements.Statement.{Statement}
 use Rattle.sg_plain.specs.declared.statements.Statement.TheVariants.{Insert, Update, Delete, Get, Select, Filter, DeleteWhere}
+use Rattle.sg_plain.specs.declared.statements.Statement.TheVariants as statements
 use Rattle.sg_plain.specs.declared.statements.Answer.{Answer}
 use Rattle.sg_plain.specs.declared.statements.Answer.TheVariants.{Inserted, Duplicate, Done, Missing, Absent, Found, Keys, Deleted}
+use Rattle.sg_plain.specs.declared.statements.Answer.TheVariants as answers
 use Rattle.sg_plain.specs.Rows.{Rows, AreRows, shape_at, IsKeysWith, CoversKeysWith}
-use Rattle.sg_plain.specs.Replies.{Means, Reply, effect}
+use Rattle.sg_plain.specs.Replies.{Means, Reply, IsScan, looked_at, effect}
 use Rattle.sg_plain.specs.Sat.{Satisfies, Meeting, IsSoundStatement}
 use Rattle.sg_plain.proofs.Collects.{IsKeysWith-unique, CoversKeysWith-from_exact}
 use Rattle.sg_plain.proofs.Lookups.{AreRows-put, AreRows-without_key, AreRows-without_keys}
@@ -55,6 +57,23 @@ pub delete_where_answers : (rows : Rows) (q : Query) (a : Answer) → Means rows
 delete_where_answers rows q (Deleted ks) h = (ks, refl, h)
 delete_where_answers rows q _ h = absurd h
 
+-- a plan of a scan
+record Scanned (rows : Rows) (q : Query) (a : Answer) : Type 0 where
+  pub keys : List ℕ
+  pub is : a ≡ answers.Plan (looked_at q.shape rows) 0 (looked_at q.shape rows) keys
+  pub exact : IsKeysWith (Satisfies q) rows keys
+
+scanned : (rows : Rows) (q : Query) (c s r : ℕ) (ks : List ℕ) → IsScan rows q c s r ks → Scanned rows q (answers.Plan c s r ks)
+scanned rows q c s r ks h =
+    let all = h.all in
+    let none_sure = h.none_sure in
+    let each_refined : r ≡ looked_at q.shape rows = h.each_refined ∙ h.all in
+    record { keys = ks; is = cc; exact = h.keys }
+
+plan_replies : (rows : Rows) (q : Query) (a : Answer) → Reply rows (statements.Plan q) a → Scanned rows q a
+plan_replies rows q (answers.Plan c s r ks) h = scanned rows q c s r ks h
+plan_replies rows q _ h = absurd h
+
 -- an exact filter
 filter_replies : (rows : Rows) (s : Shape) (a : Answer) → Reply rows (Filter s) a → (ks : List ℕ) × (a ≡ Keys ks) × IsKeysWith (Meeting s) rows ks
 filter_replies rows s (Keys ks) h = (ks, refl, h)
@@ -65,6 +84,10 @@ filter_means : (rows : Rows) (s : Shape) (a : Answer) → Reply rows (Filter s) 
 filter_means rows s (Keys ks) h = CoversKeysWith-from_exact (Meeting s) rows ks h
 filter_means rows s _ h = absurd h
 
+plan_means : (rows : Rows) (q : Query) (a : Answer) → Reply rows (statements.Plan q) a → Means rows (statements.Plan q) a
+plan_means rows q (answers.Plan c s r ks) h = h.keys
+plan_means rows q _ h = absurd h
+
 pub Means-from_Reply : (rows : Rows) (s : Statement) (a : Answer) → Reply rows s a → Means rows s a
 Means-from_Reply rows (Insert k s) a h = h
 Means-from_Reply rows (Update k s) a h = h
@@ -73,6 +96,7 @@ Means-from_Reply rows (Get k) a h = h
 Means-from_Reply rows (Select q) a h = h
 Means-from_Reply rows (Filter s) a h = filter_means rows s a h
 Means-from_Reply rows (DeleteWhere q) a h = h
+Means-from_Reply rows (statements.Plan q) a h = plan_means rows q a h
 
 -- ---- and there is one at most
 -- a key isn't both held and free
@@ -103,6 +127,11 @@ Reply-unique rows (DeleteWhere q) a b h g =
     let x = delete_where_answers rows q a h in
     let y = delete_where_answers rows q b g in
     x.1 ∙ (ap (λ (keys : List ℕ). Deleted keys) (IsKeysWith-unique (Satisfies q) rows x.0 y.0 x.2 y.2) ∙ sym y.1)
+Reply-unique rows (statements.Plan q) a b h g =
+    let x = plan_replies rows q a h in
+    let y = plan_replies rows q b g in
+    let candidates = looked_at q.shape rows in
+    x.is ∙ (ap (λ (keys : List ℕ). answers.Plan candidates 0 candidates keys) (IsKeysWith-unique (Satisfies q) rows x.keys y.keys x.exact y.exact) ∙ sym y.is)
 
 -- ---- what is left of sound rows
 pub AreRows-effect : (rows : Rows) (s : Statement) (a : Answer) → AreRows rows → IsSoundStatement s → AreRows (effect s a rows)

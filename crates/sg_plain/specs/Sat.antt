@@ -44,6 +44,7 @@ IsSoundStatement (statement.Get k) = Unit {0}
 IsSoundStatement (statement.Select q) = IsSoundQuery q
 IsSoundStatement (statement.Filter s) = IsSound s
 IsSoundStatement (statement.DeleteWhere q) = IsSoundQuery q
+IsSoundStatement (statement.Plan q) = IsSoundQuery q
 
 abbrev pub AreSound : List Statement → Type 0
 AreSound statements = All IsSoundStatement statements
@@ -58,6 +59,7 @@ IsSoundAnswer answer.Absent = Unit {0}
 IsSoundAnswer (answer.Found s) = IsSound s
 IsSoundAnswer (answer.Keys ks) = Unit {0}
 IsSoundAnswer (answer.Deleted ks) = Unit {0}
+IsSoundAnswer (answer.Plan candidates sure refined ks) = Unit {0}
 
 abbrev pub AreSoundAnswers : List Answer → Type 0
 AreSoundAnswers answers = All IsSoundAnswer answers

@@ -1,6 +1,6 @@
 ghost use Rattle.std.specs.Prelude.{◌≡◌, IfOk, OnErr};
 ghost use Rattle.sg_shape.specs.Sound.{IsSound};
-ghost use Rattle.sg_plain.specs.Replies.{Means, Reply, effect};
+ghost use Rattle.sg_plain.specs.Replies.{Means, Reply, effect, looked_at};
 ghost use Rattle.sg_plain.specs.Sat.{IsSoundAnswer, IsSoundQuery, IsSoundStatement};
 
 use crate::rows::PlainRows;
@@ -55,6 +55,7 @@ fn answer<J: Judge>(
             Ok(Answer::Keys(keys))
         }
         Statement::DeleteWhere(query) => delete_where(alloc, judge, rows, query),
+        Statement::Plan(query) => plan(alloc, judge, rows, query),
     }
 }
 
@@ -136,4 +137,36 @@ fn delete_where<J: Judge>(
     let keys = keys_with(alloc, judge, rows.as_slice(), query.test, &query.shape)?;
     rows.remove_all(keys.as_slice());
     Ok(Answer::Deleted(keys))
+}
+
+/// How a search without an index finds the rows that satisfy the query, and which they are.
+fn plan<J: Judge>(
+    alloc: Global,
+    judge: &J,
+    rows: &PlainRows,
+    query: &Query,
+) -> Result<Answer, AllocError>
+    requires { IsSoundQuery query.now }
+    ensures reply { IfOk result (Reply rows.now (Statement.Plan query.now)) }
+    ensures means { IfOk result (Means rows.now (Statement.Plan query.now)) }
+    ensures effect { IfOk result (λ answer. rows.now ≡ effect (Statement.Plan query.now) answer rows.now) }
+{
+    let keys = keys_with(alloc, judge, rows.as_slice(), query.test, &query.shape)?;
+    let candidates = looked_at(&query.shape, rows);
+    Ok(Answer::Plan {
+        candidates,
+        sure: 0,
+        refined: candidates,
+        keys,
+    })
+}
+
+/// How many rows such a search looks at.
+fn looked_at(shape: &Shape, rows: &PlainRows) -> u64
+    ensures { result ≡ looked_at shape.now rows.now }
+{
+    match shape {
+        Shape::Empty(_) => 0,
+        _ => rows.len() as u64,
+    }
 }

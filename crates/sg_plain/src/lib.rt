@@ -13,6 +13,7 @@ pub use evals::eval;
 pub use keys::KeyList;
 pub use replays::execute;
 pub use rows::PlainRows;
+pub use scans::keys_with;
 pub use statements::{Answer, Answers, Query, Statement, Test};
 pub use transactions::{End, Transaction};
 

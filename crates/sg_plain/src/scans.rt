@@ -10,8 +10,10 @@ use crate::statements::Test;
 use sg_shape::{Judge, Shape};
 use std::alloc::{AllocError, Global};
 
-/// The keys of the rows that satisfy the test against a shape.
-pub(crate) fn keys_with<J: Judge>(
+/// The keys of the rows that satisfy the test against a shape, rising: each row is tested. The rows have rising
+/// keys and sound shapes, a bound of distances is at most 64,000,000, and the shape is sound. The error comes for
+/// want of memory alone.
+pub fn keys_with<J: Judge>(
     alloc: Global,
     judge: &J,
     rows: &[(u32, Shape)],

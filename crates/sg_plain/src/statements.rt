@@ -40,6 +40,8 @@ pub enum Statement {
     Filter(Shape),
     /// Removes the rows that satisfy the query.
     DeleteWhere(Query),
+    /// Asks how a select of the query is searched, and for its keys.
+    Plan(Query),
 }
 
 /// What a statement answers.
@@ -61,6 +63,18 @@ pub enum Answer {
     Keys(KeyList),
     /// The keys of the rows that were removed, rising.
     Deleted(KeyList),
+    /// How a query was searched. Without an index each row is a candidate, none is sure, and all are refined;
+    /// for a shape without points there are no candidates.
+    Plan {
+        /// How many rows the search considered.
+        candidates: u64,
+        /// How many of them satisfy the query by the index alone.
+        sure: u64,
+        /// How many of them were tested by their shapes.
+        refined: u64,
+        /// The keys of the rows that satisfy the query, rising.
+        keys: KeyList,
+    },
 }
 
 /// Answers, one for each statement.
@@ -91,6 +105,7 @@ impl Statement {
             Statement::Select(query) => Ok(Statement::Select(query.copy(alloc)?)),
             Statement::Filter(shape) => Ok(Statement::Filter(shape.copy(alloc)?)),
             Statement::DeleteWhere(query) => Ok(Statement::DeleteWhere(query.copy(alloc)?)),
+            Statement::Plan(query) => Ok(Statement::Plan(query.copy(alloc)?)),
         }
     }
 }
@@ -109,6 +124,17 @@ impl Answer {
             Answer::Found(shape) => Ok(Answer::Found(shape.copy(alloc)?)),
             Answer::Keys(keys) => Ok(Answer::Keys(keys.copy(alloc)?)),
             Answer::Deleted(keys) => Ok(Answer::Deleted(keys.copy(alloc)?)),
+            Answer::Plan {
+                candidates,
+                sure,
+                refined,
+                keys,
+            } => Ok(Answer::Plan {
+                candidates: *candidates,
+                sure: *sure,
+                refined: *refined,
+                keys: keys.copy(alloc)?,
+            }),
         }
     }
 }

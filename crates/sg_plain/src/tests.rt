@@ -56,3 +56,30 @@ fn transactions(rt: HostRuntime) -> Result<(), Fail> {
     assert!(rt; transaction.at(3).is_none());
     Ok(())
 }
+
+#[test]
+fn plans(rt: HostRuntime) -> Result<(), Fail> {
+    let mut found = KeyList::new(rt.alloc());
+    assert!(rt; found.push(5).is_ok());
+    let told = Answer::Plan {
+        candidates: 9,
+        sure: 2,
+        refined: 7,
+        keys: found,
+    };
+    let copy = told.copy(rt.alloc())?;
+    let Answer::Plan {
+        candidates,
+        sure,
+        refined,
+        keys,
+    } = &copy
+    else {
+        return Err(Fail::from("a plan"));
+    };
+    assert_eq!(rt; *candidates, 9);
+    assert_eq!(rt; *sure, 2);
+    assert_eq!(rt; *refined, 7);
+    assert_eq!(rt; keys.len(), 1);
+    Ok(())
+}

@@ -3,7 +3,7 @@ use Rattle.std.proofs.Common.{◌≡◌, ℕ, List, [], ◌∷◌, ◌++◌, pos
 use Rattle.std.specs.Fmt.{digits}
 use Rattle.sg_shape.specs.declared.shapes.Kind.TheVariants as kind
 use Rattle.sg_shape.specs.declared.shapes.Shape.TheVariants as shapes
-use Rattle.sg_plain.specs.declared.statements.Answer.TheVariants.{Inserted, Duplicate, Done, Missing, Absent, Found, Keys, Deleted}
+use Rattle.sg_plain.specs.declared.statements.Answer.TheVariants.{Inserted, Duplicate, Done, Missing, Absent, Found, Keys, Deleted, Plan}
 use Rattle.sg_report.specs.declared.reports.Ending.TheVariants.{RolledBack}
 use Rattle.sg_report.specs.declared.reports.Report.{Report}
 use Rattle.sg_report.specs.Texts.{report_text}
@@ -65,7 +65,7 @@ answers = record {
         session = 1;
         transaction = 2;
         answers =
-            Done ∷ Missing ∷ Absent ∷ Found (shapes.Point (record { x = pos 0; y = negsuc 8 })) ∷ Deleted [] ∷ Deleted (1 ∷ 2 ∷ []) ∷ [];
+            Done ∷ Missing ∷ Absent ∷ Found (shapes.Point (record { x = pos 0; y = negsuc 8 })) ∷ Deleted [] ∷ Deleted (1 ∷ 2 ∷ []) ∷ Plan 0 0 0 [] ∷ Plan 12 3 9 (1 ∷ 20 ∷ []) ∷ [];
       }
       ∷ [];
   others = [];
@@ -81,6 +81,8 @@ every_answer :
     ++ line (codes "  shape POINT (0 -9)")
     ++ line (codes "  deleted")
     ++ line (codes "  deleted 1 2")
+    ++ line (codes "  plan 0 0 0 keys")
+    ++ line (codes "  plan 12 3 9 keys 1 20")
     ++ line (codes "rows 0")
 unfolding digits line answers
 every_answer = refl

@@ -9,11 +9,11 @@ use Rattle.std.specs.Fmt.{decimal}
 use Rattle.std.specs.List.{list_all}
 use Rattle.sg_shape.specs.declared.shapes.Shape.{Shape}
 use Rattle.sg_plain.specs.declared.statements.Answer.{Answer}
-use Rattle.sg_plain.specs.declared.statements.Answer.TheVariants.{Inserted, Duplicate, Done, Missing, Absent, Found, Keys, Deleted}
+use Rattle.sg_plain.specs.declared.statements.Answer.TheVariants.{Inserted, Duplicate, Done, Missing, Absent, Found, Keys, Deleted, Plan}
 use Rattle.sg_wkt.specs.Canonical.{canonical}
 use Rattle.sg_wkt.specs.Laws.{TellsApart, IsPrintable, is_printable}
-use Rattle.sg_report.specs.Texts.{keys_text, answer_text, answer_line, owner_text, row_line}
-use Rattle.sg_report.specs.Laws.{AreKeys, IsAnswer, IsRow}
+use Rattle.sg_report.specs.Texts.{spaced, keys_text, answer_text, answer_line, owner_text, row_line}
+use Rattle.sg_report.specs.Laws.{AreKeys, IsAnswer, IsPlanned, IsRow}
 use Rattle.sg_report.proofs.Splits.{Stops, both, split, list_all-wider, all_digits, split_number}
 
 -- ---- facts of each element
@@ -86,10 +86,48 @@ digit_printable b h = grind (arith, nat_tests)
 joined : (xs ys : List ℕ) → list_all is_printable xs ≡ true → list_all is_printable ys ≡ true → list_all is_printable (xs ++ ys) ≡ true
 joined xs ys h k = list_all-append is_printable xs ys ∙ both (list_all is_printable xs) (list_all is_printable ys) h k
 
+spaced_printable : (n : ℕ) → list_all is_printable (spaced n) ≡ true
+spaced_printable n = list_all-wider is_ascii_digit is_printable digit_printable (decimal n) (all_digits n)
+
 keys_printable : (ks : List ℕ) → list_all is_printable (keys_text ks) ≡ true
 keys_printable [] = refl
 keys_printable (k ∷ ks) =
-    joined (codes " " ++ decimal k) (keys_text ks) (list_all-wider is_ascii_digit is_printable digit_printable (decimal k) (all_digits k)) (keys_printable ks)
+    joined (spaced k) (keys_text ks) (spaced_printable k) (keys_printable ks)
+
+-- ---- the counts of a plan, and its keys
+counts_grouped : (c s r : ℕ) (xs : List ℕ) →
+    codes "plan" ++ spaced c ++ spaced s ++ spaced r ++ codes " keys" ++ xs ≡ codes "plan" ++ (spaced c ++ (spaced s ++ (spaced r ++ (codes " keys" ++ xs))))
+counts_grouped c s r xs = by_five (codes "plan") (spaced c) (spaced s) (spaced r) (codes " keys") xs
+
+plan_printable : (c s r : ℕ) (ks : List ℕ) → list_all is_printable (answer_text (Plan c s r ks)) ≡ true
+plan_printable c s r ks =
+    ap (list_all is_printable) (counts_grouped c s r (keys_text ks))
+    ∙ joined (spaced c) (spaced s ++ (spaced r ++ (codes " keys" ++ keys_text ks))) (spaced_printable c)
+    (joined (spaced s) (spaced r ++ (codes " keys" ++ keys_text ks)) (spaced_printable s)
+    (joined (spaced r) (codes " keys" ++ keys_text ks) (spaced_printable r) (keys_printable ks)))
+
+-- a count, and what follows it after a space
+count_tells : (m n : ℕ) (xs ys : List ℕ) → m < 2 ^ 64 → n < 2 ^ 64 → spaced m ++ (32 ∷ xs) ≡ spaced n ++ (32 ∷ ys) → (m ≡ n) × (32 ∷ xs ≡ 32 ∷ ys)
+count_tells m n xs ys hm hn e =
+    split_number m n (32 ∷ xs) (32 ∷ ys) hm hn refl refl (append_cancel_left (codes " ") (decimal m ++ (32 ∷ xs)) (decimal n ++ (32 ∷ ys)) e)
+
+-- two texts of keys without the end of the line
+whole_keys : (ks ls : List ℕ) → AreKeys ks → AreKeys ls → keys_text ks ≡ keys_text ls → ks ≡ ls
+whole_keys ks ls hk hl e = (keys_tell ks ls [] [] hk hl (ap (λ text. text ++ 10 ∷ []) e)).0
+
+plan_tells : (c s r : ℕ) (ks : List ℕ) (d t u : ℕ) (ls : List ℕ) → IsPlanned c s r ks → IsPlanned d t u ls →
+    answer_text (Plan c s r ks) ≡ answer_text (Plan d t u ls) → Plan c s r ks ≡ Plan d t u ls
+plan_tells c s r ks d t u ls h g e =
+    let text = sym (counts_grouped c s r (keys_text ks)) ∙ e ∙ counts_grouped d t u (keys_text ls) in
+    let one = count_tells c d (decimal s ++ (spaced r ++ (codes " keys" ++ keys_text ks))) (decimal t ++ (spaced u ++ (codes " keys" ++ keys_text ls))) h.first g.first
+    (append_cancel_left (codes "plan") (spaced c ++ (spaced s ++ (spaced r ++ (codes " keys" ++ keys_text ks)))) (spaced d ++ (spaced t ++ (spaced u ++ (codes " keys" ++ keys_text ls)))) text) in
+    let two = count_tells s t (decimal r ++ (codes " keys" ++ keys_text ks)) (decimal u ++ (codes " keys" ++ keys_text ls)) h.second g.second one.1 in
+    let three = count_tells r u (codes "keys" ++ keys_text ks) (codes "keys" ++ keys_text ls) h.third g.third two.1 in
+    let keys = whole_keys ks ls h.keys g.keys (append_cancel_left (codes " keys") (keys_text ks) (keys_text ls) three.1) in
+    let first : c ≡ d = one.0 in
+    let second : s ≡ t = two.0 in
+    let third : r ≡ u = three.0 in
+    cc
 
 module _ (apart : TellsApart) (printable : IsPrintable) where
   answer_printable : (a : Answer) → IsAnswer a → list_all is_printable (answer_text a) ≡ true
@@ -101,10 +139,7 @@ module _ (apart : TellsApart) (printable : IsPrintable) where
   answer_printable (Found s) h = printable s h
   answer_printable (Keys ks) h = keys_printable ks
   answer_printable (Deleted ks) h = keys_printable ks
-
-  -- two texts of keys without the end of the line
-  whole_keys : (ks ls : List ℕ) → AreKeys ks → AreKeys ls → keys_text ks ≡ keys_text ls → ks ≡ ls
-  whole_keys ks ls hk hl e = (keys_tell ks ls [] [] hk hl (ap (λ text. text ++ 10 ∷ []) e)).0
+  answer_printable (Plan c s r ks) h = plan_printable c s r ks
 
   -- the first byte and the third tell the kind of an answer
   kind : List ℕ → ℕ
@@ -120,6 +155,7 @@ module _ (apart : TellsApart) (printable : IsPrintable) where
   answer_tells (Found s) (Found t) ha hb e = ap Found (apart s t ha hb (append_cancel_left (codes "shape ") (canonical s) (canonical t) e))
   answer_tells (Keys ks) (Keys ls) ha hb e = ap Keys (whole_keys ks ls ha hb (append_cancel_left (codes "keys") (keys_text ks) (keys_text ls) e))
   answer_tells (Deleted ks) (Deleted ls) ha hb e = ap Deleted (whole_keys ks ls ha hb (append_cancel_left (codes "deleted") (keys_text ks) (keys_text ls) e))
+  answer_tells (Plan c s r ks) (Plan d t u ls) ha hb e = plan_tells c s r ks d t u ls ha hb e
   answer_tells a b ha hb e = let clash : kind (answer_text a) ≡ kind (answer_text b) = ap kind e in absurd (omega arith)
 
   pub answer_line_tells : (a b : Answer) (xs ys : List ℕ) → IsAnswer a → IsAnswer b → answer_line a ++ xs ≡ answer_line b ++ ys → (a ≡ b) × (xs ≡ ys)

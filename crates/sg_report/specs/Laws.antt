@@ -4,17 +4,23 @@ use Rattle.sg_modes.specs.Sessions.{IsSession}
 use Rattle.sg_shape.specs.declared.shapes.Shape.{Shape}
 use Rattle.sg_shape.specs.Sound.{IsSound}
 use Rattle.sg_plain.specs.declared.statements.Answer.{Answer}
-use Rattle.sg_plain.specs.declared.statements.Answer.TheVariants.{Inserted, Duplicate, Done, Missing, Absent, Found, Keys, Deleted}
+use Rattle.sg_plain.specs.declared.statements.Answer.TheVariants.{Inserted, Duplicate, Done, Missing, Absent, Found, Keys, Deleted, Plan}
 use Rattle.sg_report.specs.declared.reports.Commit.{Commit}
 use Rattle.sg_report.specs.declared.reports.Other.{Other}
 use Rattle.sg_report.specs.declared.reports.Report.{Report}
 use Rattle.sg_report.specs.Texts.{report_text}
 
--- Keys have 32 bits, and numbers of transactions 64: so it is in each report of a program.
+-- Keys have 32 bits, and counts and numbers of transactions 64: so it is in each report of a program.
 abbrev pub AreKeys : List ℕ → Type 0
 AreKeys ks = All (λ k. k < 2 ^ 32) ks
 
--- the keys of an answer fit, and its shape is sound
+pub record IsPlanned (candidates sure refined : ℕ) (ks : List ℕ) : Type 0 where
+  pub first : candidates < 2 ^ 64
+  pub second : sure < 2 ^ 64
+  pub third : refined < 2 ^ 64
+  pub keys : AreKeys ks
+
+-- the keys and counts of an answer fit, and its shape is sound
 abbrev pub IsAnswer : Answer → Type 0
 IsAnswer Inserted = Unit {0}
 IsAnswer Duplicate = Unit {0}
@@ -24,6 +30,7 @@ IsAnswer Absent = Unit {0}
 IsAnswer (Found s) = IsSound s
 IsAnswer (Keys ks) = AreKeys ks
 IsAnswer (Deleted ks) = AreKeys ks
+IsAnswer (Plan candidates sure refined ks) = IsPlanned candidates sure refined ks
 
 pub record IsCommit (commit : Commit) : Type 0 where
   pub session : IsSession commit.session

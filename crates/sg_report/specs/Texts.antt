@@ -4,7 +4,7 @@ use Rattle.std.specs.Fmt.{decimal}
 use Rattle.std.specs.List.{flat_map, enumerate_from}
 use Rattle.sg_shape.specs.declared.shapes.Shape.{Shape}
 use Rattle.sg_plain.specs.declared.statements.Answer.{Answer}
-use Rattle.sg_plain.specs.declared.statements.Answer.TheVariants.{Inserted, Duplicate, Done, Missing, Absent, Found, Keys, Deleted}
+use Rattle.sg_plain.specs.declared.statements.Answer.TheVariants.{Inserted, Duplicate, Done, Missing, Absent, Found, Keys, Deleted, Plan}
 use Rattle.sg_plain.specs.Rows.{Rows}
 use Rattle.sg_wkt.specs.Canonical.{canonical}
 use Rattle.sg_report.specs.declared.reports.Commit.{Commit}
@@ -13,12 +13,12 @@ use Rattle.sg_report.specs.declared.reports.Ending.TheVariants.{RolledBack}
 use Rattle.sg_report.specs.declared.reports.Other.{Other}
 use Rattle.sg_report.specs.declared.reports.Report.{Report}
 
--- the key after a space
-abbrev pub key_text : ℕ → List ℕ
-key_text k = codes " " ++ decimal k
+-- a number after a space
+abbrev pub spaced : ℕ → List ℕ
+spaced n = codes " " ++ decimal n
 
 abbrev pub keys_text : List ℕ → List ℕ
-keys_text ks = flat_map key_text ks
+keys_text ks = flat_map spaced ks
 
 abbrev pub answer_text : Answer → List ℕ
 answer_text Inserted = codes "inserted"
@@ -29,6 +29,8 @@ answer_text Absent = codes "none"
 answer_text (Found s) = codes "shape " ++ canonical s
 answer_text (Keys ks) = codes "keys" ++ keys_text ks
 answer_text (Deleted ks) = codes "deleted" ++ keys_text ks
+answer_text (Plan candidates sure refined ks) =
+    codes "plan" ++ spaced candidates ++ spaced sure ++ spaced refined ++ codes " keys" ++ keys_text ks
 
 -- the answer after two spaces
 abbrev pub answer_line : Answer → List ℕ

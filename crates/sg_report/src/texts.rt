@@ -5,11 +5,11 @@ ghost use Rattle.sg_shape.specs.Sound.{IsSound};
 ghost use Rattle.sg_plain.specs.Sat.{IsSoundAnswer, AreSoundAnswers};
 ghost use Rattle.sg_report.specs.Laws.{AreKeys, IsAnswer, IsCommit, IsOther, IsReport, IsRow};
 ghost use Rattle.sg_report.specs.Sound.{AreSoundCommits};
-ghost use Rattle.sg_report.specs.Texts.{answer_line, answer_text, commit_text, commits_text, key_text, keys_text, ending_text, other_text, owner_text, count_line, row_line, rows_text, report_text};
+ghost use Rattle.sg_report.specs.Texts.{answer_line, answer_text, commit_text, commits_text, spaced, keys_text, ending_text, other_text, owner_text, count_line, row_line, rows_text, report_text};
 
 use crate::reports::{Commit, Ending, Other, Report};
 use itoa::Buffer;
-use sg_plain::Answer;
+use sg_plain::{Answer, KeyList};
 use sg_shape::Shape;
 use sg_wkt::write_wkt;
 use std::alloc::{AllocError, Global};
@@ -102,6 +102,12 @@ fn append_answer_text(alloc: Global, answer: &Answer, out: &mut Vec<u8>) -> Resu
         Answer::Found(shape) => append_found(alloc, shape, out),
         Answer::Keys(keys) => append_word_and_keys(b"keys", keys.as_slice(), out),
         Answer::Deleted(keys) => append_word_and_keys(b"deleted", keys.as_slice(), out),
+        Answer::Plan {
+            candidates,
+            sure,
+            refined,
+            keys,
+        } => append_plan(*candidates, *sure, *refined, keys, out),
     }
 }
 
@@ -127,16 +133,33 @@ fn append_keys(keys: &[u32], out: &mut Vec<u8>) -> Result<(), AllocError>
     ensures fits { OnOk result (AreKeys keys.now) }
 {
     for key in keys {
-        append_key(*key, out)?;
+        append_spaced(*key as u64, out)?;
     }
     Ok(())
 }
 
-fn append_key(key: u32, out: &mut Vec<u8>) -> Result<(), AllocError>
-    ensures { OnOk result (out.new.items ≡ out.old.items ++ key_text key) }
+fn append_spaced(number: u64, out: &mut Vec<u8>) -> Result<(), AllocError>
+    ensures { OnOk result (out.new.items ≡ out.old.items ++ spaced number) }
 {
     out.extend_from_slice(b" ")?;
-    append_number(key as u64, out)
+    append_number(number, out)
+}
+
+fn append_plan(
+    candidates: u64,
+    sure: u64,
+    refined: u64,
+    keys: &KeyList,
+    out: &mut Vec<u8>,
+) -> Result<(), AllocError>
+    ensures text { OnOk result (out.new.items ≡ out.old.items ++ answer_text (Answer.Plan candidates sure refined keys.now)) }
+    ensures fits { OnOk result (IsAnswer (Answer.Plan candidates sure refined keys.now)) }
+{
+    out.extend_from_slice(b"plan")?;
+    append_spaced(candidates, out)?;
+    append_spaced(sure, out)?;
+    append_spaced(refined, out)?;
+    append_word_and_keys(b" keys", keys.as_slice(), out)
 }
 
 fn append_others(others: &[Other], out: &mut Vec<u8>) -> Result<(), AllocError>
