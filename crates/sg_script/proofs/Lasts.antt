@@ -1,6 +1,7 @@
 -- The last session of a script.
 use Rattle.std.proofs.Common.{Contains, ◌≡◌, ◌≢◌, ℕ, zero, suc, ◌-◌, ◌+◌, ◌≤◌, List, [], ◌∷◌, ◌++◌, length, get_or, map, refl, sym, ap, ◌∙◌, subst, arith}
 use Rattle.std.proofs.Math.ListN.{set}
+use Rattle.sg_cells.specs.declared.settings.Settings.{Settings}
 use Rattle.sg_plain.specs.Transactions.{TransactionPlan}
 use Rattle.sg_script.specs.declared.sessions.SessionScript.{SessionScript}
 use Rattle.sg_plain.specs.Rows.{Rows}
@@ -34,24 +35,24 @@ numbers_of-set [] n x y e f = refl
 numbers_of-set (s ∷ ss) zero x y e f = ap (λ (n : ℕ). n ∷ numbers_of ss) (e ∙ ap (λ (u : SessionScript). u.session) f)
 numbers_of-set (s ∷ ss) (suc n) x y e f = ap (λ (ns : List ℕ). s.session ∷ ns) (numbers_of-set ss n x y e f)
 
-abbrev plan_with : Rows → List ℕ → List SessionScript → Plan
-plan_with rows order sessions = record { rows = rows; sessions = sessions; order = order }
+abbrev plan_with : Settings → Rows → List ℕ → List SessionScript → Plan
+plan_with settings rows order sessions = record { settings = settings; rows = rows; sessions = sessions; order = order }
 
 some_length : (ss : List SessionScript) → ss ≢ [] → suc (length ss - 1) ≡ length ss
 some_length [] e = absurd (e refl)
 some_length (s ∷ ss) e = omega arith
 
-pub added_last : (plan : Plan) (rows : Rows) (order : List ℕ) (items : List SessionScript) (n : ℕ) (x : SessionScript) (ts : List TransactionPlan) (t : TransactionPlan) →
-    plan_with rows order items ≡ plan → plan.sessions ≢ [] → n ≡ length items → x ≡ get_or items (n - 1) x → ts ≡ x.transactions ++ t ∷ [] →
-    plan_with rows order (set items (n - 1) (record { session = x.session; priority = x.priority; transactions = ts })) ≡ record plan { sessions = with_transaction t plan.sessions }
-added_last plan rows order items n x ts t e some len at more =
-    let f : Plan → Type 0 = λ (p : Plan). p.sessions ≢ [] → plan_with rows order (set items (n - 1) (record { session = x.session; priority = x.priority; transactions = ts })) ≡ record p { sessions = with_transaction t p.sessions } in
+pub added_last : (plan : Plan) (settings : Settings) (rows : Rows) (order : List ℕ) (items : List SessionScript) (n : ℕ) (x : SessionScript) (ts : List TransactionPlan) (t : TransactionPlan) →
+    plan_with settings rows order items ≡ plan → plan.sessions ≢ [] → n ≡ length items → x ≡ get_or items (n - 1) x → ts ≡ x.transactions ++ t ∷ [] →
+    plan_with settings rows order (set items (n - 1) (record { session = x.session; priority = x.priority; transactions = ts })) ≡ record plan { sessions = with_transaction t plan.sessions }
+added_last plan settings rows order items n x ts t e some len at more =
+    let f : Plan → Type 0 = λ (p : Plan). p.sessions ≢ [] → plan_with settings rows order (set items (n - 1) (record { session = x.session; priority = x.priority; transactions = ts })) ≡ record p { sessions = with_transaction t p.sessions } in
     subst f e inside some
   where
-    inside : items ≢ [] → plan_with rows order (set items (n - 1) (record { session = x.session; priority = x.priority; transactions = ts })) ≡ plan_with rows order (with_transaction t items)
+    inside : items ≢ [] → plan_with settings rows order (set items (n - 1) (record { session = x.session; priority = x.priority; transactions = ts })) ≡ plan_with settings rows order (with_transaction t items)
     inside s =
         let one : suc (n - 1) ≡ length items = ap (λ (m : ℕ). suc (m - 1)) len ∙ some_length items s in
-        ap (plan_with rows order)
+        ap (plan_with settings rows order)
         (ap (λ (us : List TransactionPlan). set items (n - 1) (record { session = x.session; priority = x.priority; transactions = us })) more
         ∙ sym (with_transaction-set t items (n - 1) x one at))
 

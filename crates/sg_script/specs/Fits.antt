@@ -7,9 +7,13 @@ use Rattle.sg_script.specs.declared.words.Line.TheVariants as line
 use Rattle.sg_script.specs.declared.words.Place.{Place}
 use Rattle.sg_script.specs.declared.words.Place.TheVariants as place
 use Rattle.sg_script.specs.Grammar.{Least}
+use Rattle.sg_script.specs.Plans.{IsWindow}
 
--- its key or number is above those before it, its shapes are sound, and a transaction begins where none is open
+-- its window is one, its key or number is above those before it, its shapes are sound, and a transaction begins
+-- where none is open
 abbrev pub Fits : Place → Least → Line → Type 0
+Fits p least (line.Grid g) = Unit {0}
+Fits p least (line.Window n) = IsWindow n
 Fits p least (line.Row k s) = (least.key ≤ k) × IsSound s
 Fits p least (line.Session n priority) = least.session ≤ n
 Fits p least line.Begin = p ≡ place.Between

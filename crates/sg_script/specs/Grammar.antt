@@ -1,11 +1,16 @@
 -- The grammar of a script: what its lines spell, or its first fault, by the number of its line and its kind.
-use Rattle.std.specs.Prelude.{ℕ, Bool, true, false, ◌+◌, ◌-◌, nat_le, ◌&&◌, if◌then◌else◌, List, [], ◌∷◌, ◌++◌, ℤ, pos, negsuc, neg_ℤ, int_le, Option, Some, None, Result, Ok, Err, codes, bytes_eq}
+use Rattle.std.specs.Prelude.{ℕ, Bool, true, false, ◌+◌, ◌-◌, nat_le, ◌&&◌, if◌then◌else◌, List, [], ◌∷◌, ◌++◌, ℤ, pos, negsuc, neg_ℤ, int_le, Option, Some, None, is_some, Result, Ok, Err, codes, bytes_eq}
 use Rattle.sg_shape.specs.declared.shapes.Shape.{Shape}
 use Rattle.sg_shape.specs.declared.matrices.Pred.{Pred}
 use Rattle.sg_shape.specs.declared.matrices.Pred.TheVariants as pred
+use Rattle.sg_cells.specs.Cells.{Grid}
+use Rattle.sg_cells.specs.Grids.{grid_fault, grid_within}
+use Rattle.sg_cells.specs.declared.density.Density.{Density}
+use Rattle.sg_cells.specs.declared.density.Density.TheVariants as density
+use Rattle.sg_cells.specs.declared.faults.GridFault.{GridFault}
 use Rattle.sg_wkt.specs.declared.faults.WktFault.{WktFault}
 use Rattle.sg_wkt.specs.Grammar.{shape_in}
-use Rattle.sg_plain.specs.Rows.{keys_of}
+use Rattle.sg_plain.specs.Rows.{Rows, keys_of}
 use Rattle.sg_plain.specs.declared.statements.Query.{Query}
 use Rattle.sg_plain.specs.declared.statements.Statement.{Statement}
 use Rattle.sg_plain.specs.declared.statements.Statement.TheVariants as statement
@@ -16,6 +21,7 @@ use Rattle.sg_plain.specs.declared.transactions.End.TheVariants as end
 use Rattle.sg_script.specs.declared.faults.ScriptFault.{ScriptFault}
 use Rattle.sg_script.specs.declared.faults.ScriptKind.{ScriptKind}
 use Rattle.sg_script.specs.declared.faults.ScriptKind.TheVariants as kind
+use Rattle.sg_script.specs.declared.settings.Corners.{Corners}
 use Rattle.sg_script.specs.declared.words.Line.{Line}
 use Rattle.sg_script.specs.declared.words.Line.TheVariants as line
 use Rattle.sg_script.specs.declared.words.Place.{Place}
@@ -139,6 +145,89 @@ test_from None text = if bytes_eq (field text) (codes "distance") then distance 
 unfoldable pub test_of : List ℕ → Reading Test
 test_of text = test_from (relation_of (field text)) text
 
+-- ---- how the table is searched
+-- a number without a range of its own
+abbrev pub whole_from : Option ℤ → Result ℤ ScriptKind
+whole_from (Some z) = Ok z
+whole_from None = Err kind.Number
+
+unfoldable pub whole : List ℕ → Reading ℤ
+whole text = do
+  z ← whole_from (number (field text))
+  Ok (z, after_field text)
+
+-- the lower left corner of a box, and then the upper right one
+unfoldable pub corners_in : List ℕ → Reading Corners
+corners_in text = do
+  xmin ← whole text
+  ymin ← whole xmin.1
+  xmax ← whole ymin.1
+  ymax ← whole xmax.1
+  Ok (record { xmin = xmin.0; ymin = ymin.0; xmax = xmax.0; ymax = ymax.0 }, ymax.1)
+
+-- the density that a word names
+abbrev pub density_named : List ℕ → Option Density
+density_named name =
+    if bytes_eq name (codes "low") then Some density.Low
+    else (if bytes_eq name (codes "medium") then Some density.Medium
+    else (if bytes_eq name (codes "high") then Some density.High
+    else None))
+
+abbrev pub density_from : Option Density → List ℕ → Reading Density
+density_from (Some d) rest = Ok (d, rest)
+density_from None rest = Err kind.Word
+
+unfoldable pub density_in : List ℕ → Reading Density
+density_in text = density_from (density_named (field text)) (after_field text)
+
+unfoldable pub four_densities : List ℕ → Reading (List Density)
+four_densities text = do
+  first ← density_in text
+  second ← density_in first.1
+  third ← density_in second.1
+  fourth ← density_in third.1
+  Ok (first.0 ∷ second.0 ∷ third.0 ∷ fourth.0 ∷ [], fourth.1)
+
+-- the densities of levels 1 to 4, which are medium where no field is left
+unfoldable pub densities : List ℕ → Reading (List Density)
+densities text =
+    if bytes_eq (field text) [] then Ok (density.Medium ∷ density.Medium ∷ density.Medium ∷ density.Medium ∷ [], text)
+    else four_densities text
+
+-- the number of cells per object, which is 16 where no field is left
+unfoldable pub cells : List ℕ → Reading ℤ
+cells text = if bytes_eq (field text) [] then Ok (pos 16, text) else whole text
+
+-- a grid, unless it has a fault
+abbrev pub unless : Option GridFault → Grid → Result Line ScriptKind
+unless None g = Ok (line.Grid g)
+unless (Some f) g = Err (kind.Grid f)
+
+abbrev pub grid_made : Corners → List Density → ℤ → Result Line ScriptKind
+grid_made c ds n = unless (grid_fault c.xmin c.ymin c.xmax c.ymax n) (grid_within c.xmin c.ymin c.xmax c.ymax ds n)
+
+unfoldable pub grid_line : List ℕ → Result Line ScriptKind
+grid_line text = do
+  c ← corners_in text
+  ds ← densities c.1
+  n ← cells ds.1
+  _ ← nothing n.1
+  grid_made c.0 ds.0 n.0
+
+abbrev pub window_in : Option ℕ → Result ℕ ScriptKind
+window_in (Some n) = if nat_le 1 n && nat_le n 8192 then Ok n else Err kind.Number
+window_in None = Err kind.Number
+
+abbrev pub window_from : Option ℤ → Result ℕ ScriptKind
+window_from (Some z) = window_in (natural z)
+window_from None = Err kind.Number
+
+unfoldable pub window_line : List ℕ → Result Line ScriptKind
+window_line text = do
+  n ← window_from (number (field text))
+  _ ← nothing (after_field text)
+  Ok (line.Window n)
+
 -- ---- lines, after their first word
 -- the least key that the next row may have, and the least number that the next session may have
 pub record Least : Type 0 where
@@ -148,9 +237,11 @@ pub record Least : Type 0 where
 abbrev pub least_of : Plan → Least
 least_of plan = record { key = above_all (keys_of plan.rows); session = above_all (numbers_of plan.sessions) }
 
--- what a script spells so far: the plan, and the statements of the transaction that is open, if one is
+-- what a script spells so far: the plan, whether a line told the window, and the statements of the transaction
+-- that is open, if one is
 pub record Draft : Type 0 where
   pub plan : Plan
+  pub windowed : Bool
   pub pending : Option (List Statement)
 
 unfoldable pub row_line : ℕ → List ℕ → Result Line ScriptKind
@@ -206,6 +297,11 @@ select_line text = do
   q ← query_of text
   Ok (line.Statement (statement.Select q))
 
+unfoldable pub plan_line : List ℕ → Result Line ScriptKind
+plan_line text = do
+  q ← query_of text
+  Ok (line.Statement (statement.Plan q))
+
 -- `delete where` has a query, and `delete` alone a key
 unfoldable pub delete_line : List ℕ → Result Line ScriptKind
 delete_line text =
@@ -221,6 +317,8 @@ filter_line text = do
   Ok (line.Statement (statement.Filter s))
 
 abbrev pub fields : Least → Word → List ℕ → Result Line ScriptKind
+fields least word.Grid text = grid_line text
+fields least word.Window text = window_line text
 fields least word.Row text = row_line least.key text
 fields least word.Session text = session_line least.session text
 fields least word.Begin text = bare_line line.Begin text
@@ -232,18 +330,35 @@ fields least word.Delete text = delete_line text
 fields least word.Get text = get_line text
 fields least word.Select text = select_line text
 fields least word.Filter text = filter_line text
+fields least word.Plan text = plan_line text
 
 -- ---- where lines may stand
-abbrev pub place_in : Option (List Statement) → List ℕ → Place
-place_in (Some statements) numbers = place.Open
-place_in None [] = place.Opening
-place_in None (n ∷ numbers) = place.Between
+-- before the first session, after these rows; front is where no row is
+abbrev pub place_before : Place → Rows → Place
+place_before front [] = front
+place_before front (row ∷ rows) = place.Opening
+
+abbrev pub place_in : Place → Option (List Statement) → List ℕ → Rows → Place
+place_in front (Some statements) numbers rows = place.Open
+place_in front None [] rows = place_before front rows
+place_in front None (n ∷ numbers) rows = place.Between
 
 abbrev pub place_of : Draft → Place
-place_of d = place_in d.pending (numbers_of d.plan.sessions)
+place_of d = place_in (place.Front (is_some d.plan.settings.grid) d.windowed) d.pending (numbers_of d.plan.sessions) d.plan.rows
 
--- rows come first; each session's transactions follow its line; within one stand its statements, and its end
+-- a line that may stand once
+abbrev pub once : Bool → Result (Unit {0}) ScriptKind
+once true = Err kind.Word
+once false = Ok tt
+
+-- The grid and the window come first, in either order, then rows; each session's transactions follow its line;
+-- within one stand its statements, and its end.
 abbrev pub stands : Place → Word → Result (Unit {0}) ScriptKind
+stands (place.Front grid window) word.Grid = once grid
+stands (place.Front grid window) word.Window = once window
+stands (place.Front grid window) word.Row = Ok tt
+stands (place.Front grid window) word.Session = Ok tt
+stands (place.Front grid window) w = Err kind.Word
 stands place.Opening word.Row = Ok tt
 stands place.Opening word.Session = Ok tt
 stands place.Opening w = Err kind.Word
@@ -251,6 +366,8 @@ stands place.Between word.Session = Ok tt
 stands place.Between word.Begin = Ok tt
 stands place.Between w = Err kind.Word
 stands place.Open word.Session = Err kind.NotClosed
+stands place.Open word.Grid = Err kind.Word
+stands place.Open word.Window = Err kind.Word
 stands place.Open word.Row = Err kind.Word
 stands place.Open word.Begin = Err kind.Word
 stands place.Open w = Ok tt
@@ -277,13 +394,18 @@ closed None e plan = plan
 
 -- the script with a further line
 abbrev pub with_line : Draft → Line → Draft
+with_line d (line.Grid g) = record d { plan = record d.plan { settings = record d.plan.settings { grid = Some g } } }
+with_line d (line.Window n) = record d {
+  plan = record d.plan { settings = record d.plan.settings { window = n } };
+  windowed = true;
+}
 with_line d (line.Row k s) = record d { plan = record d.plan { rows = d.plan.rows ++ (k, s) ∷ [] } }
 with_line d (line.Session n p) = record d {
   plan = record d.plan { sessions = d.plan.sessions ++ record { session = n; priority = p; transactions = [] } ∷ [] };
 }
 with_line d line.Begin = record d { pending = Some [] }
 with_line d (line.Statement s) = record d { pending = added d.pending s }
-with_line d (line.End e) = record { plan = closed d.pending e d.plan; pending = None }
+with_line d (line.End e) = record d { plan = closed d.pending e d.plan; pending = None }
 
 -- the script with a line that may say nothing
 unfoldable pub step : Draft → List ℕ → Result Draft ScriptKind
@@ -305,8 +427,13 @@ abbrev pub read : ℕ → Draft → List (List ℕ) → Result Plan ScriptFault
 read number d [] = closed_at (number - 1) d.plan d.pending
 read number d (l ∷ ls) = then_read number (step d l) (λ more. read (number + 1) more ls)
 
+-- without lines of their own there is no grid, and the window is 64
 abbrev pub empty_draft : Draft
-empty_draft = record { plan = record { rows = []; sessions = []; order = [] }; pending = None }
+empty_draft = record {
+  plan = record { settings = record { grid = None; window = 64 }; rows = []; sessions = []; order = [] };
+  windowed = false;
+  pending = None;
+}
 
 -- what a whole text spells, or its first fault
 unfoldable pub script_in : List ℕ → Result Plan ScriptFault

@@ -1,11 +1,14 @@
--- A script as plain data: opening rows, sessions by rising number, and whose turns come in which order.
-use Rattle.std.specs.Prelude.{ℕ, ◌+◌, ◌==◌, if◌then◌else◌, List, [], ◌∷◌, ◌++◌, map, slice_get, All, Contains, Option, Some, None}
+-- A script as plain data: how its table is searched, opening rows, sessions by rising number, and whose turns come
+-- in which order.
+use Rattle.std.specs.Prelude.{ℕ, ◌+◌, ◌≤◌, ◌==◌, if◌then◌else◌, List, [], ◌∷◌, ◌++◌, map, slice_get, All, Contains, Option, Some, None}
+use Rattle.sg_cells.specs.declared.settings.Settings.{Settings}
 use Rattle.sg_plain.specs.Keys.{IsRising}
 use Rattle.sg_plain.specs.Rows.{Rows}
 use Rattle.sg_plain.specs.Transactions.{TransactionPlan, SessionPlan}
 use Rattle.sg_script.specs.declared.sessions.SessionScript.{SessionScript}
 
 pub record Plan : Type 0 where
+  pub settings : Settings
   pub rows : Rows
   pub sessions : List SessionScript
   pub order : List ℕ
@@ -47,7 +50,13 @@ transaction_at sessions n place = transaction_in (session_at sessions n) place
 abbrev pub IsOrderOf : List ℕ → List ℕ → Type 0
 IsOrderOf numbers order = All (λ n. Contains numbers n) order
 
--- the numbers of the sessions rise, and the turns are theirs
-pub record IsPlan (sessions : List SessionScript) (order : List ℕ) : Type 0 where
+-- how many cells a query may have
+pub record IsWindow (window : ℕ) : Type 0 where
+  pub some : 1 ≤ window
+  pub most : window ≤ 8192
+
+-- the window is one, the numbers of the sessions rise, and the turns are theirs
+pub record IsPlan (settings : Settings) (sessions : List SessionScript) (order : List ℕ) : Type 0 where
+  pub window : IsWindow settings.window
   pub rising : IsRising (numbers_of sessions)
   pub turns : IsOrderOf (numbers_of sessions) order

@@ -1,3 +1,4 @@
+use sg_cells::GridFault;
 use sg_wkt::WktFault;
 
 /// What is wrong with a line of a script.
@@ -13,6 +14,8 @@ pub enum ScriptKind {
     Session,
     /// A transaction is still open where a session begins or the text ends.
     NotClosed,
+    /// The line of the grid is spelled as one, but there is no such grid, for this reason.
+    Grid(GridFault),
 }
 
 /// The first fault of a text: the number of its line, from 1 with skipped lines counted too, and what is

@@ -10,6 +10,7 @@ mod readers;
 mod reading;
 mod scripts;
 mod sessions;
+mod settings;
 #[cfg(test)]
 mod tests;
 mod texts;

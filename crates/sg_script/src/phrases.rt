@@ -3,10 +3,11 @@ ghost use Rattle.sg_script.specs.declared.words.Place.{Place};
 ghost use Rattle.sg_script.specs.Fits.{Fits};
 ghost use Rattle.sg_plain.specs.Sat.{IsSoundQuery};
 ghost use Rattle.sg_script.specs.Gives.{Gives};
-ghost use Rattle.sg_script.specs.Grammar.{Least, bare_line, delete_line, fields, filter_line, get_line, insert_line, lone_key, query_of, row_line, select_line, session_line, stands, update_line};
+ghost use Rattle.sg_script.specs.Grammar.{Least, bare_line, delete_line, fields, filter_line, get_line, insert_line, lone_key, once, plan_line, query_of, row_line, select_line, session_line, stands, update_line};
 
 use crate::faults::{ReadLine, ScriptKind};
 use crate::fields::first_field;
+use crate::settings::{grid_line, window_line};
 use crate::texts::{key, nothing, priority, session_number, shape, test_of};
 use crate::words::{Line, Place, Word};
 use sg_plain::{End, Query, Statement};
@@ -17,12 +18,27 @@ pub fn stands(place: Place, word: Word) -> Result<(), ReadLine>
     ensures { Gives (λ _. tt) result (stands place word) }
 {
     match (place, word) {
-        (Place::Opening, Word::Row | Word::Session) => Ok(()),
+        (Place::Front { grid, .. }, Word::Grid) => once(grid),
+        (Place::Front { window, .. }, Word::Window) => once(window),
+        (Place::Front { .. } | Place::Opening, Word::Row | Word::Session) => Ok(()),
         (Place::Between, Word::Session | Word::Begin) => Ok(()),
         (Place::Open, Word::Session) => Err(ReadLine::Fault(ScriptKind::NotClosed)),
-        (Place::Open, Word::Row | Word::Begin) => Err(ReadLine::Fault(ScriptKind::Word)),
+        (Place::Open, Word::Grid | Word::Window | Word::Row | Word::Begin) => {
+            Err(ReadLine::Fault(ScriptKind::Word))
+        }
         (Place::Open, _) => Ok(()),
         _ => Err(ReadLine::Fault(ScriptKind::Word)),
+    }
+}
+
+/// Whether a line may stand that may stand once.
+fn once(told: bool) -> Result<(), ReadLine>
+    ensures { Gives (λ _. tt) result (once told) }
+{
+    if told {
+        Err(ReadLine::Fault(ScriptKind::Word))
+    } else {
+        Ok(())
     }
 }
 
@@ -118,6 +134,15 @@ fn select_line(alloc: Global, text: &[u8]) -> Result<Line, ReadLine>
     Ok(Line::Statement(Statement::Select(query)))
 }
 
+#[tactic(auto, unfolding(crate::specs::Grammar::plan_line))]
+fn plan_line(alloc: Global, text: &[u8]) -> Result<Line, ReadLine>
+    ensures gives { Gives (λ l. l) result (plan_line text.now) }
+    ensures fits { (p : Place) (least : Least) → IfOk result (Fits p least) }
+{
+    let query = query_of(alloc, text)?;
+    Ok(Line::Statement(Statement::Plan(query)))
+}
+
 #[tactic(auto, unfolding(crate::specs::Grammar::delete_line))]
 fn delete_line(alloc: Global, text: &[u8]) -> Result<Line, ReadLine>
     ensures gives { Gives (λ l. l) result (delete_line text.now) }
@@ -155,6 +180,8 @@ pub fn fields(
     ensures fits { IfOk result (Fits place (record { key = least_key; session = least_session })) }
 {
     match word {
+        Word::Grid => grid_line(text),
+        Word::Window => window_line(text),
         Word::Row => row_line(alloc, least_key, text),
         Word::Session => session_line(least_session, text),
         Word::Begin => bare_line(Line::Begin, text),
@@ -166,5 +193,6 @@ pub fn fields(
         Word::Get => get_line(text),
         Word::Select => select_line(alloc, text),
         Word::Filter => filter_line(alloc, text),
+        Word::Plan => plan_line(alloc, text),
     }
 }

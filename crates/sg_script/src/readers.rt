@@ -15,16 +15,22 @@ use crate::phrases::{fields, stands};
 use crate::scripts::Script;
 use crate::sessions::SessionScript;
 use crate::words::{Line, Place, word_of};
+use sg_cells::Settings;
 use sg_modes::Session;
 use sg_plain::{End, PlainRows, Statement, Transaction};
 use sg_shape::Shape;
 use std::alloc::{AllocError, Global};
 use std::marker::Model;
 
+/// How many cells a query may have where no line tells.
+const WINDOW: u32 = 64;
+
 /// A script that is being read, line by line.
 #[derive(Drop)]
 pub struct Reader {
     script: Script,
+    /// Whether a line told the window.
+    windowed: bool,
     /// The transaction that is open, whose end isn't known yet.
     pending: Option<Transaction>,
 }
@@ -35,7 +41,7 @@ impl Model for Reader {
 
     ghost Value = { Draft };
 
-    ghost view = { λ r. record { plan = r.script; pending = option_map (λ t. t.statements) r.pending } };
+    ghost view = { λ r. record { plan = r.script; windowed = r.windowed; pending = option_map (λ t. t.statements) r.pending } };
 
     ghost invariant = { λ r. IsSome r.pending → r.script.sessions ≢ [] };
 }
@@ -45,8 +51,13 @@ impl Reader {
     pub fn new(alloc: Global) -> Reader
         ensures { result ≡ empty_draft }
     {
+        let settings = Settings {
+            grid: None,
+            window: WINDOW,
+        };
         Reader {
-            script: Script::new(alloc, PlainRows::new(alloc)),
+            script: Script::new(alloc, settings, PlainRows::new(alloc)),
+            windowed: false,
             pending: None,
         }
     }
@@ -56,10 +67,15 @@ impl Reader {
     {
         if self.pending.is_some() {
             Place::Open
-        } else if self.script.sessions().is_empty() {
+        } else if !self.script.sessions().is_empty() {
+            Place::Between
+        } else if !self.script.rows().as_slice().is_empty() {
             Place::Opening
         } else {
-            Place::Between
+            Place::Front {
+                grid: self.script.settings().grid.is_some(),
+                window: self.windowed,
+            }
         }
     }
 
@@ -86,6 +102,15 @@ impl Reader {
         ensures { OnOk result (self.new ≡ with_line self.old line) }
     {
         match line {
+            Line::Grid(grid) => {
+                self.script.grid(grid);
+                Ok(())
+            }
+            Line::Window(window) => {
+                self.script.window(window);
+                self.windowed = true;
+                Ok(())
+            }
             Line::Row(key, shape) => add_row(&mut self.script, key, shape),
             Line::Session(session, priority) => {
                 add_session(alloc, &mut self.script, session, priority)

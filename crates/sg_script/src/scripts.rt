@@ -1,20 +1,22 @@
-ghost use Rattle.std.specs.Prelude.{◌≡◌, ◌≢◌, ◌≤◌, [], ◌∷◌, ◌++◌, option_map, OnOk, OnErr, IfErr};
+ghost use Rattle.std.specs.Prelude.{◌≡◌, ◌≢◌, ◌≤◌, [], ◌∷◌, ◌++◌, Some, option_map, OnOk, OnErr, IfErr};
 ghost use Rattle.std.specs.Option.{option_copied};
 ghost use Rattle.sg_shape.specs.Sound.{IsSound};
 ghost use Rattle.sg_plain.specs.Keys.{IsRising};
 ghost use Rattle.sg_plain.specs.Rows.{keys_of};
-ghost use Rattle.sg_script.specs.Plans.{IsOrderOf, above_all, numbers_of, session_at, transaction_at, with_transaction};
+ghost use Rattle.sg_script.specs.Plans.{IsOrderOf, IsWindow, above_all, numbers_of, session_at, transaction_at, with_transaction};
 
 use crate::sessions::SessionScript;
+use sg_cells::{Grid, Settings};
 use sg_modes::{Schedule, Session};
 use sg_plain::{PlainRows, Transaction};
 use sg_shape::{Back, Items, Shape};
 use std::alloc::{AllocError, Global};
 use std::marker::Model;
 
-/// The opening rows, the sessions by rising number, and the order of their turns.
+/// How the table is searched, the opening rows, the sessions by rising number, and the order of their turns.
 #[derive(Debug, Drop)]
 pub struct Script {
+    settings: Settings,
     rows: PlainRows,
     sessions: Vec<SessionScript>,
     order: Schedule,
@@ -25,24 +27,35 @@ impl Model for Script {
 
     ghost Value = { Plan };
 
-    ghost view = { λ script. record { rows = script.rows; sessions = script.sessions.items; order = script.order } };
+    ghost view = { λ script. record { settings = script.settings; rows = script.rows; sessions = script.sessions.items; order = script.order } };
 
-    ghost invariant = { λ script. IsPlan script.sessions.items script.order };
+    ghost invariant = { λ script. IsPlan script.settings script.sessions.items script.order };
 }
 
 impl Script {
-    /// A script with these opening rows and no sessions. It takes no memory, and keeps the allocator for
-    /// its own growth.
-    pub fn new(alloc: Global, rows: PlainRows) -> Script
+    /// A script with these settings and opening rows and no sessions. The window is from 1 to 8192. It takes
+    /// no memory, and keeps the allocator for its own growth.
+    pub fn new(alloc: Global, settings: Settings, rows: PlainRows) -> Script
+        requires { IsWindow settings.window }
+        ensures settings { result.settings ≡ settings }
         ensures rows { result.rows ≡ rows }
         ensures sessions { result.sessions ≡ [] }
         ensures order { result.order ≡ [] }
     {
         Script {
+            settings,
             rows,
             sessions: Vec::new(alloc),
             order: Schedule::new(alloc),
         }
+    }
+
+    /// How the table is searched. The window is from 1 to 8192.
+    pub fn settings(&self) -> &Settings
+        ensures all { result.now ≡ self.now.settings }
+        ensures window { IsWindow self.now.settings.window }
+    {
+        &self.settings
     }
 
     /// The opening rows.
@@ -91,6 +104,21 @@ impl Script {
         ensures { self.new ≡ record self.old { order = order } }
     {
         self.order = order;
+    }
+
+    /// Gives the table an index over this grid.
+    pub(crate) fn grid(&mut self, grid: Grid)
+        ensures { self.new ≡ record self.old { settings = record self.old.settings { grid = Some grid } } }
+    {
+        self.settings.grid = Some(grid);
+    }
+
+    /// Sets how many cells a query may have.
+    pub(crate) fn window(&mut self, window: u32)
+        requires { IsWindow window }
+        ensures { self.new ≡ record self.old { settings = record self.old.settings { window = window } } }
+    {
+        self.settings.window = window;
     }
 
     /// Puts an opening row last, whose key has to be above all others. Without memory for it the script stays

@@ -1,6 +1,8 @@
 use crate::{ReadScript, Script, ScriptFault, ScriptKind, read_script};
+use sg_cells::{GridFault, Settings};
 use sg_modes::{Schedule, Session};
-use sg_plain::{End, PlainRows, Statement, Transaction};
+use sg_plain::{End, PlainRows, Statement, Test, Transaction};
+use sg_shape::Pred;
 use std::alloc::Global;
 use std::process::Abort;
 use std::test::Fail;
@@ -49,7 +51,12 @@ fn reads_scripts(rt: HostRuntime) -> Result<(), Fail> {
 #[test]
 fn builds_scripts(rt: HostRuntime) -> Result<(), Fail> {
     let first = Session::new(1).ok_or("a session")?;
-    let mut script = Script::new(rt.alloc(), PlainRows::new(rt.alloc()));
+    let settings = Settings {
+        grid: None,
+        window: 1,
+    };
+    let mut script = Script::new(rt.alloc(), settings, PlainRows::new(rt.alloc()));
+    assert_eq!(rt; script.settings().window, 1);
     script.session(rt.alloc(), first, 10)?;
     let empty = Transaction::new(rt.alloc(), End::Commit);
     assert!(rt; script.transaction(empty).is_ok());
@@ -92,4 +99,169 @@ fn tells_faults(rt: HostRuntime) {
     );
     is_faulty(&rt, alloc, b"session 1 priority 11", 1, ScriptKind::Number);
     is_faulty(&rt, alloc, b"session 1\nbegin now\n", 2, ScriptKind::Word);
+}
+
+#[test]
+fn reads_settings(rt: HostRuntime) -> Result<(), Fail> {
+    let text = b"window 8192\n\ngrid -8 0 8 16 low medium high low 9\nrow 1 POINT EMPTY\n";
+    let Ok(script) = read_script(rt.alloc(), text) else {
+        return Err(Fail::from("refused"));
+    };
+    let settings = script.settings();
+    assert_eq!(rt; settings.window, 8192);
+    let Some(grid) = &settings.grid else {
+        return Err(Fail::from("a grid"));
+    };
+    assert_eq!(rt; grid.cells(), 9);
+    assert_eq!(rt; grid.side(2), 8);
+    assert_eq!(rt; grid.side(3), 16);
+    assert_eq!(rt; grid.side(4), 4);
+    assert_eq!(rt; grid.whole().xlow, -8);
+    assert_eq!(rt; grid.whole().yhigh, 16);
+    Ok(())
+}
+
+#[test]
+fn reads_a_grid_before_the_window(rt: HostRuntime) -> Result<(), Fail> {
+    let text = b"grid 0 0 8 8 high high high high\nwindow 1\nsession 1\n";
+    let Ok(script) = read_script(rt.alloc(), text) else {
+        return Err(Fail::from("refused"));
+    };
+    let settings = script.settings();
+    assert_eq!(rt; settings.window, 1);
+    let Some(grid) = &settings.grid else {
+        return Err(Fail::from("a grid"));
+    };
+    assert_eq!(rt; grid.cells(), 16);
+    assert_eq!(rt; grid.side(1), 16);
+    Ok(())
+}
+
+#[test]
+fn settings_that_are_left_out(rt: HostRuntime) -> Result<(), Fail> {
+    let Ok(script) = read_script(rt.alloc(), b"grid 0 0 8 8\n") else {
+        return Err(Fail::from("refused"));
+    };
+    let settings = script.settings();
+    assert_eq!(rt; settings.window, 64);
+    let Some(grid) = &settings.grid else {
+        return Err(Fail::from("a grid"));
+    };
+    assert_eq!(rt; grid.cells(), 16);
+    assert_eq!(rt; grid.side(1), 8);
+    assert_eq!(rt; grid.side(4), 8);
+    let Ok(script) = read_script(rt.alloc(), b"") else {
+        return Err(Fail::from("refused"));
+    };
+    assert!(rt; script.settings().grid.is_none());
+    Ok(())
+}
+
+#[test]
+fn reads_plans(rt: HostRuntime) -> Result<(), Fail> {
+    let text =
+        b"session 1\nbegin\nplan within POINT (1 2)\nplan distance < 5 POINT EMPTY\ncommit\n";
+    let Ok(script) = read_script(rt.alloc(), text) else {
+        return Err(Fail::from("refused"));
+    };
+    let first = Session::new(1).ok_or("a session")?;
+    let Some(transaction) = script.transaction_of(first, 0) else {
+        return Err(Fail::from("a transaction"));
+    };
+    let [within, near] = transaction.as_slice() else {
+        return Err(Fail::from("two statements"));
+    };
+    let Statement::Plan(query) = within else {
+        return Err(Fail::from("a plan"));
+    };
+    assert_eq!(rt; query.test, Test::Relate(Pred::Within));
+    assert!(rt; matches!(near, Statement::Plan(_)));
+    Ok(())
+}
+
+#[test]
+fn tells_faults_of_grids(rt: HostRuntime) {
+    let alloc = rt.alloc();
+    is_faulty(&rt, alloc, b"grid 0 0 8", 1, ScriptKind::Number);
+    is_faulty(&rt, alloc, b"grid 0 +0 8 8", 1, ScriptKind::Number);
+    is_faulty(&rt, alloc, b"grid 0 0 8 8 16", 1, ScriptKind::Word);
+    is_faulty(&rt, alloc, b"grid 0 0 8 8 low low low", 1, ScriptKind::Word);
+    is_faulty(
+        &rt,
+        alloc,
+        b"grid 0 0 8 8 low low low low x",
+        1,
+        ScriptKind::Number,
+    );
+    is_faulty(
+        &rt,
+        alloc,
+        b"grid 0 0 8 8 low low low low 0 x",
+        1,
+        ScriptKind::Word,
+    );
+}
+
+#[test]
+fn tells_faults_of_boxes(rt: HostRuntime) {
+    let alloc = rt.alloc();
+    is_faulty(
+        &rt,
+        alloc,
+        b"grid 0 0 999999999999999999 0",
+        1,
+        ScriptKind::Grid(GridFault::CoordOut),
+    );
+    is_faulty(
+        &rt,
+        alloc,
+        b"grid 0 0 8 0",
+        1,
+        ScriptKind::Grid(GridFault::BoxEmpty),
+    );
+    is_faulty(
+        &rt,
+        alloc,
+        b"grid 0 0 8 8 low low low low 8193",
+        1,
+        ScriptKind::Grid(GridFault::CellsOut),
+    );
+}
+
+#[test]
+fn tells_faults_of_windows(rt: HostRuntime) {
+    let alloc = rt.alloc();
+    is_faulty(&rt, alloc, b"window", 1, ScriptKind::Number);
+    is_faulty(&rt, alloc, b"window 0", 1, ScriptKind::Number);
+    is_faulty(&rt, alloc, b"window 8193", 1, ScriptKind::Number);
+    is_faulty(&rt, alloc, b"window 8 8", 1, ScriptKind::Word);
+    is_faulty(&rt, alloc, b"window 64\nwindow 64\n", 2, ScriptKind::Word);
+}
+
+#[test]
+fn tells_settings_out_of_place(rt: HostRuntime) {
+    let alloc = rt.alloc();
+    is_faulty(
+        &rt,
+        alloc,
+        b"grid 0 0 8 8\nwindow 8\ngrid 0 0 8 8",
+        3,
+        ScriptKind::Word,
+    );
+    is_faulty(
+        &rt,
+        alloc,
+        b"row 1 POINT EMPTY\ngrid 0 0 8 8",
+        2,
+        ScriptKind::Word,
+    );
+    is_faulty(&rt, alloc, b"session 1\nwindow 8", 2, ScriptKind::Word);
+    is_faulty(
+        &rt,
+        alloc,
+        b"session 1\nbegin\ngrid 0 0 8 8",
+        3,
+        ScriptKind::Word,
+    );
+    is_faulty(&rt, alloc, b"plan within POINT EMPTY", 1, ScriptKind::Word);
 }

@@ -40,7 +40,7 @@ pub fn nothing(text: &[u8]) -> Result<(), ReadLine>
 }
 
 /// A number that isn't negative.
-fn natural(number: i64) -> Option<u64>
+pub fn natural(number: i64) -> Option<u64>
     ensures { result ≡ natural number }
 {
     if number < 0 {

@@ -1,6 +1,7 @@
 ghost use Rattle.std.specs.Prelude.{◌≡◌};
-ghost use Rattle.sg_script.specs.Words.{word_of};
+ghost use Rattle.sg_script.specs.Words.{frame_word, statement_word, word_of};
 
+use sg_cells::Grid;
 use sg_modes::Session;
 use sg_plain::{End, Statement};
 use sg_shape::Shape;
@@ -8,6 +9,8 @@ use sg_shape::Shape;
 /// The first word of a line.
 #[derive(Clone, Copy, Debug, PartialEq, Eq)]
 pub enum Word {
+    Grid,
+    Window,
     Row,
     Session,
     Begin,
@@ -19,11 +22,16 @@ pub enum Word {
     Get,
     Select,
     Filter,
+    Plan,
 }
 
 /// What a line says.
 #[derive(Debug, Drop)]
 pub enum Line {
+    /// The table has an index over this grid.
+    Grid(Grid),
+    /// A query may have this many cells.
+    Window(u32),
     /// An opening row.
     Row(u32, Shape),
     /// A session begins, with its priority.
@@ -39,7 +47,9 @@ pub enum Line {
 /// Where a line stands.
 #[derive(Clone, Copy, Debug, PartialEq, Eq)]
 pub enum Place {
-    /// Before the first session.
+    /// Before the first row and the first session, where the grid and the window were told or not.
+    Front { grid: bool, window: bool },
+    /// After a row, before the first session.
     Opening,
     /// In a session, with no transaction open.
     Between,
@@ -51,6 +61,22 @@ pub enum Place {
 pub fn word_of(field: &[u8]) -> Option<Word>
     ensures { result ≡ word_of field.now }
 {
+    match frame_word(field) {
+        Some(word) => Some(word),
+        None => statement_word(field),
+    }
+}
+
+/// The word of a line that isn't a statement.
+fn frame_word(field: &[u8]) -> Option<Word>
+    ensures { result ≡ frame_word field.now }
+{
+    if field == b"grid".as_slice() {
+        return Some(Word::Grid);
+    }
+    if field == b"window".as_slice() {
+        return Some(Word::Window);
+    }
     if field == b"row".as_slice() {
         return Some(Word::Row);
     }
@@ -66,6 +92,13 @@ pub fn word_of(field: &[u8]) -> Option<Word>
     if field == b"rollback".as_slice() {
         return Some(Word::Rollback);
     }
+    None
+}
+
+/// The word of a statement.
+fn statement_word(field: &[u8]) -> Option<Word>
+    ensures { result ≡ statement_word field.now }
+{
     if field == b"insert".as_slice() {
         return Some(Word::Insert);
     }
@@ -83,6 +116,9 @@ pub fn word_of(field: &[u8]) -> Option<Word>
     }
     if field == b"filter".as_slice() {
         return Some(Word::Filter);
+    }
+    if field == b"plan".as_slice() {
+        return Some(Word::Plan);
     }
     None
 }

@@ -1,5 +1,11 @@
 use Rattle.sg_script.proofs.phrases.fields.Goals as goal
 
+pub returns-in-Grid-clause-fits : goal.returns-in-Grid-clause-fits
+returns-in-Grid-clause-fits c = c.grid_line.ensures.fits c.args.place (record { key = c.args.least_key; session = c.args.least_session })
+
+pub returns-in-Window-clause-fits : goal.returns-in-Window-clause-fits
+returns-in-Window-clause-fits c = c.window_line.ensures.fits c.args.place (record { key = c.args.least_key; session = c.args.least_session })
+
 pub returns-in-Row-clause-fits : goal.returns-in-Row-clause-fits
 returns-in-Row-clause-fits c = c.row_line.ensures.fits c.args.place c.args.least_session
 
@@ -23,3 +29,6 @@ returns-in-Get-clause-fits c = c.get_line.ensures.fits c.args.place (record { ke
 
 pub returns-in-Filter-clause-fits : goal.returns-in-Filter-clause-fits
 returns-in-Filter-clause-fits c = c.filter_line.ensures.fits c.args.place (record { key = c.args.least_key; session = c.args.least_session })
+
+pub returns-in-Plan-clause-fits : goal.returns-in-Plan-clause-fits
+returns-in-Plan-clause-fits c = c.plan_line.ensures.fits c.args.place (record { key = c.args.least_key; session = c.args.least_session })

@@ -4,6 +4,7 @@ use Rattle.sg_script.proofs.scripts.Script.schedule.Goals as goal
 
 pub invariant_of-self : goal.invariant_of-self
 invariant_of-self c = record {
+  window = c.self.invariant.window;
   rising = c.self.invariant.rising;
   turns = subst (λ (p : Plan). IsOrderOf (numbers_of p.sessions) c.args.order) (sym c.self.view_is) c.requires;
 }

@@ -7,6 +7,7 @@ use Rattle.sg_script.proofs.scripts.Script.session.Goals as goal
 
 pub invariant_of-self-2 : goal.invariant_of-self-2
 invariant_of-self-2 c = record {
+  window = c.self.invariant.window;
   rising =
       subst IsRising (sym (ap numbers_of c.in_ok-push.ensures.items ∙ numbers_of-append c.self.inside.sessions.items _))
       (rising_push _ _ c.self.invariant.rising
