@@ -1,6 +1,9 @@
-use sg_plain::{Answer, End, PlainRows, Query, Statement, Test, Transaction, eval, execute};
+use crate::tests::prints;
+use sg_plain::{
+    Answer, End, PlainRows, Query, Statement, Test, Transaction, eval, execute, keys_with,
+};
 use sg_relate::Relate;
-use sg_shape::{Kind, Shape, Spot};
+use sg_shape::{Kind, Pred, Shape, Spot};
 use std::test::Fail;
 
 #[test]
@@ -73,4 +76,56 @@ fn statements_that_look_for_rows(rt: HostRuntime) -> Result<(), Fail> {
     let answer = eval(alloc, &Relate, &mut rows, &select)?;
     assert!(rt; matches!(&answer, Answer::Keys(keys) if keys.len() == 2));
     Ok(())
+}
+
+#[test]
+fn plan_of_two_rows(rt: HostRuntime) -> Result<(), Fail> {
+    let alloc = rt.alloc();
+    let mut rows = PlainRows::new(alloc);
+    rows.push(3, Shape::Point(Spot { x: 0, y: 0 }))?;
+    rows.push(8, Shape::Point(Spot { x: 3, y: 4 }))?;
+    let plan = Statement::Plan(Query {
+        test: Test::Relate(Pred::Intersects),
+        shape: Shape::Point(Spot { x: 3, y: 4 }),
+    });
+    let answer = eval(alloc, &Relate, &mut rows, &plan)?;
+    let Answer::Plan {
+        candidates,
+        sure,
+        refined,
+        keys,
+    } = &answer
+    else {
+        return Err(Fail::from("a plan"));
+    };
+    assert_eq!(rt; *candidates, 2);
+    assert_eq!(rt; *sure, 0);
+    assert_eq!(rt; *refined, 2);
+    assert_eq!(rt; keys.len(), 1);
+    assert_eq!(rt; *keys.at(0).ok_or("a key")?, 8);
+    Ok(())
+}
+
+#[test]
+fn keys_of_rows_within_a_point(rt: HostRuntime) -> Result<(), Fail> {
+    let alloc = rt.alloc();
+    let mut rows = PlainRows::new(alloc);
+    rows.push(3, Shape::Point(Spot { x: 0, y: 0 }))?;
+    rows.push(8, Shape::Point(Spot { x: 3, y: 4 }))?;
+    let within = Test::Relate(Pred::Within);
+    let shape = Shape::Point(Spot { x: 0, y: 0 });
+    let keys = keys_with(alloc, &Relate, rows.as_slice(), within, &shape)?;
+    assert_eq!(rt; keys.len(), 1);
+    assert_eq!(rt; *keys.at(0).ok_or("a key")?, 3);
+    Ok(())
+}
+
+#[test]
+fn prints_plans(rt: HostRuntime) -> Result<(), Fail> {
+    prints(
+        &rt,
+        rt.alloc(),
+        b"row 1 POINT (0 0)\nrow 2 POINT (5 5)\nsession 1\nbegin\nplan intersects POINT (5 5)\nplan distance <= 9 POINT (0 0)\nplan intersects POINT EMPTY\ncommit\n",
+        b"commit 1 session 1 transaction 1\n  plan 2 0 2 keys 2\n  plan 2 0 2 keys 1 2\n  plan 0 0 0 keys\nrows 2\n  1 POINT (0 0)\n  2 POINT (5 5)\n",
+    )
 }

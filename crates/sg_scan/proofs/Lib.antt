@@ -1,0 +1,12 @@
+pub mod SeenRows
+pub mod Stretches
+pub mod Orders
+pub mod Nexts
+pub mod Walking
+pub mod Members
+pub mod Marks
+pub mod Finding
+pub mod Answering
+pub mod Gathered
+pub mod CellsPut
+pub mod RowsPut
