@@ -1,0 +1,13 @@
+pub mod Picked
+pub mod Rising
+pub mod Versioned
+pub mod CellKeys
+pub mod Endings
+pub mod Loads
+pub mod Rewriting
+pub mod Writing
+pub mod Changes
+pub mod Removing
+pub mod Choices
+pub mod Waiting
+pub mod Satisfying

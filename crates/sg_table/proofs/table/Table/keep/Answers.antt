@@ -1,0 +1,21 @@
+use Rattle.sg_versions.specs.declared.version.End.TheVariants.{Keep}
+use Rattle.sg_scan.specs.Agreement.{seen_rows}
+use Rattle.sg_table.proofs.Picked.{shape_at-seen}
+use Rattle.sg_table.proofs.Endings.{ended_table, seen_as, committed_as, seen_are}
+use Rattle.sg_table.proofs.table.Table.keep.Goals as goal
+
+pub invariant_of-self : goal.invariant_of-self
+invariant_of-self c =
+    ended_table c.self.inside.settings c.self.inside.session c.self.inside.rows.rows c.self.inside.cells.rows c.self.invariant Keep c.keep.new.self.rows c.keep-2.new.self.rows c.keep.ensures.rows c.keep-2.ensures.rows
+
+pub returns-clause-committed : goal.returns-clause-committed
+returns-clause-committed c =
+    rw (← c.self.view_is)
+    (committed_as c.self.inside.settings c.self.inside.session c.self.inside.rows.rows c.self.inside.cells.rows c.self.invariant Keep c.keep.new.self.rows c.keep-2.new.self.rows c.keep.ensures.rows c.keep-2.ensures.rows
+    (seen_rows c.self.inside.session c.self.inside.rows.rows) (seen_are c.self.inside.session c.self.inside.rows.rows c.self.invariant.rows_are) (λ k. shape_at-seen c.self.inside.session c.self.inside.rows.rows k c.self.invariant.rows_are.rising))
+
+pub returns-clause-seen : goal.returns-clause-seen
+returns-clause-seen c =
+    rw (← c.self.view_is)
+    (seen_as c.self.inside.settings c.self.inside.session c.self.inside.rows.rows c.self.inside.cells.rows c.self.invariant Keep c.keep.new.self.rows c.keep-2.new.self.rows c.keep.ensures.rows c.keep-2.ensures.rows
+    (seen_rows c.self.inside.session c.self.inside.rows.rows) (seen_are c.self.inside.session c.self.inside.rows.rows c.self.invariant.rows_are) (λ k. shape_at-seen c.self.inside.session c.self.inside.rows.rows k c.self.invariant.rows_are.rising))
