@@ -46,7 +46,7 @@ fn plans_with_a_sure_row(rt: HostRuntime) -> Result<(), Fail> {
         return Err("no plan".into());
     };
     assert!(rt; candidates == 1 && sure == 1 && refined == 0);
-    assert!(rt; keys.as_slice() == [1]);
+    assert!(rt; keys.as_slice() == [1].as_slice());
     Ok(())
 }
 
@@ -66,7 +66,7 @@ fn filters_by_cells_alone(rt: HostRuntime) -> Result<(), Fail> {
     let Answer::Keys(keys) = answer else {
         return Err("no keys".into());
     };
-    assert!(rt; keys.as_slice() == [1]);
+    assert!(rt; keys.as_slice() == [1].as_slice());
     let select = Statement::Select(Query {
         test: Test::Relate(Pred::Intersects),
         shape: Shape::Point(Spot { x: 20, y: 20 }),
@@ -109,7 +109,7 @@ fn executes_a_transaction(rt: HostRuntime) -> Result<(), Fail> {
     let Some(Answer::Keys(keys)) = answers.at(1) else {
         return Err("no keys".into());
     };
-    assert!(rt; keys.as_slice() == [7]);
+    assert!(rt; keys.as_slice() == [7].as_slice());
     table.keep();
     assert_eq!(rt; table.committed(rt.alloc())?.len(), 1);
     Ok(())

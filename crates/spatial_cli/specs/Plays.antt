@@ -1,5 +1,6 @@
 -- A script's transactions one after another: all of the first session, then those of the next, in order.
 use Rattle.std.specs.Prelude.{◌≡◌, ℕ, ◌+◌, Bool, true, false, not, List, [], ◌∷◌, map, filter, flat_map}
+use Rattle.sg_cells.specs.declared.settings.Settings.{Settings}
 use Rattle.sg_plain.specs.declared.statements.Statement.{Statement}
 use Rattle.sg_plain.specs.declared.transactions.End.{End}
 use Rattle.sg_plain.specs.declared.transactions.End.TheVariants as end
@@ -13,6 +14,8 @@ use Rattle.sg_report.specs.declared.reports.Report.{Report}
 use Rattle.sg_report.specs.Sound.{AreSoundCommits}
 use Rattle.sg_script.specs.declared.sessions.SessionScript.{SessionScript}
 use Rattle.sg_script.specs.Plans.{Plan, sessions_of}
+use Rattle.sg_trace.specs.Replies.{SerialIn}
+use Rattle.spatial_cli.specs.declared.player.Game.{Game}
 
 -- ---- the transactions of a script
 -- a transaction, its session, and its number there
@@ -65,19 +68,33 @@ abbrev pub rolled_back : Numbered → Other
 rolled_back t = record { session = t.session; transaction = t.number; ending = RolledBack }
 
 -- Of these transactions the committing ones, in order, were executed one after another from the first rows,
--- with the kept answers, and left the last rows; the others left nothing.
-pub record Played (first : Rows) (ts : List Numbered) (report : Report) : Type 0 where
+-- with the kept answers, which are those of a table with these settings, and left the last rows; the others left
+-- nothing.
+pub record Played (c : Settings) (first : Rows) (ts : List Numbered) (report : Report) : Type 0 where
   pub journal : List Entry
   pub serial : Serial first journal report.rows
+  pub serial_in : SerialIn c first journal report.rows
   pub executed : map head_of journal ≡ map planned (committing ts)
   pub commits : report.commits ≡ map commit_of journal
   pub others : report.others ≡ map rolled_back (others ts)
   pub sound : AreSoundCommits report.commits
 
--- The report of a run of a script: all its transactions were played, and the journal is in script order.
+-- what a game prints if it ends here
+abbrev pub report_of : Game → Report
+report_of game = record { commits = game.commits; others = game.others; rows = game.table.committed }
+
+-- A game of these transactions with this table's settings, in which no transaction is open.
+pub record PlayedTo (c : Settings) (first : Rows) (ts : List Numbered) (game : Game) : Type 0 where
+  pub settings : game.table.settings ≡ c
+  pub closed : game.table.seen ≡ game.table.committed
+  pub played : Played c first ts (report_of game)
+
+-- The report of a run of a script: all its transactions were played, and the journal is in script order. The
+-- answers are allowed on plain rows, and are exactly those of a table with the script's settings.
 pub record IsRun (plan : Plan) (report : Report) : Type 0 where
   pub journal : List Entry
   pub serial : Serial plan.rows journal report.rows
+  pub serial_in : SerialIn plan.settings plan.rows journal report.rows
   pub order : ScriptOrder (sessions_of plan) journal
   pub all : map head_of journal ≡ map planned (committing (numbered plan))
   pub commits : report.commits ≡ map commit_of journal

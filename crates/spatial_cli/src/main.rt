@@ -1,6 +1,8 @@
 //! The program: a script of transactions on a table of shapes, played and printed.
 #![tactic(auto)]
 
+#[cfg(test)]
+mod index_tests;
 mod laws;
 mod player;
 mod program;
@@ -30,7 +32,7 @@ fn main(rt: HostRuntime) -> ExitCode {
     let mut source = StdSource::new(rt.stdin());
     let mut out = StdSink::new(rt.stdout());
     let mut err = StdSink::new(rt.stderr());
-    let status = spatial_main(rt.alloc(), &words, &mut source, &mut out, &mut err);
+    let status = spatial_main(&rt, rt.alloc(), &words, &mut source, &mut out, &mut err);
     ExitCode::from(status.number())
 }
 

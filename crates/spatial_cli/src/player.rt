@@ -1,84 +1,120 @@
 ghost use Rattle.std.specs.Prelude.{◌≡◌, ◌+◌, ◌∷◌, [], ◌++◌, List, IfOk, OnOk};
+ghost use Rattle.sg_cells.specs.declared.settings.Settings.{Settings};
 ghost use Rattle.sg_plain.specs.Rows.{Rows};
 ghost use Rattle.sg_report.specs.Sound.{AreSoundCommits};
-ghost use Rattle.spatial_cli.specs.Plays.{IsRun, Numbered, Played, numbered_session};
+ghost use Rattle.spatial_cli.specs.Plays.{IsRun, Numbered, PlayedTo, numbered_session};
 
 use sg_modes::Session;
-use sg_plain::{End, Transaction, execute};
+use sg_plain::{End, Transaction};
 use sg_report::{Commit, Ending, Other, Report};
 use sg_script::{Script, SessionScript};
-use sg_shape::{Items, Judge};
+use sg_shape::{CellJudge, Items, Judge};
+use sg_table::Table;
 use std::alloc::{AllocError, Global};
+use std::thread::Threads;
 
-/// Plays all transactions of the first session, then those of the next, by rising number.
-pub fn play<J: Judge>(alloc: Global, judge: &J, script: &Script) -> Result<Report, AllocError>
+/// The transactions played so far, and the table as they have left it.
+#[derive(Drop)]
+pub struct Game {
+    /// The table.
+    table: Table,
+    /// The transactions that have committed.
+    commits: Items<Commit>,
+    /// The others.
+    others: Items<Other>,
+}
+
+/// The two judges of a game: of pairs of shapes, and of shapes and cells.
+#[derive(Clone, Copy, Debug)]
+pub struct Judges<J, C> {
+    /// Relates shapes, and tells how near they are.
+    pub shapes: J,
+    /// Tells what a shape has to do with a cell.
+    pub cells: C,
+}
+
+/// Plays all transactions of the first session, then those of the next, by rising number, on a table with the
+/// script's settings.
+pub fn play<R: Threads + Sync, J: Judge, C: CellJudge + Sync>(
+    rt: &R,
+    alloc: Global,
+    judges: &Judges<J, C>,
+    script: &Script,
+) -> Result<Report, AllocError>
     ensures run { IfOk result (IsRun script.now) }
     ensures sound { IfOk result (λ report. AreSoundCommits report.commits) }
 {
-    let mut report = Report {
+    let rows = script.rows().copy(alloc)?;
+    let mut game = Game {
+        table: Table::load(rt, alloc, &judges.cells, *script.settings(), rows)?,
         commits: Items::new(alloc),
         others: Items::new(alloc),
-        rows: script.rows().copy(alloc)?,
     };
     let sessions = script.sessions();
     for session in sessions {
-        play_session(alloc, judge, session, &mut report)?;
+        play_session(alloc, judges, session, &mut game)?;
     }
-    Ok(report)
+    let rows = game.table.committed(alloc)?;
+    Ok(Report {
+        commits: game.commits,
+        others: game.others,
+        rows,
+    })
 }
 
 /// Plays the transactions of a session, in order.
-fn play_session<J: Judge>(
+fn play_session<J: Judge, C: CellJudge>(
     alloc: Global,
-    judge: &J,
+    judges: &Judges<J, C>,
     session: &SessionScript,
-    report: &mut Report,
+    game: &mut Game,
 ) -> Result<(), AllocError>
-    ensures { OnOk result ((first : Rows) (before : List Numbered) → Played first before report.old
-        → Played first (before ++ numbered_session session.now) report.new) }
+    ensures { OnOk result ((c : Settings) (first : Rows) (before : List Numbered) → PlayedTo c first before game.old
+        → PlayedTo c first (before ++ numbered_session session.now) game.new) }
 {
     let owner = session.session;
     let transactions = session.transactions.as_slice();
     for (i, transaction) in transactions.iter().enumerate() {
-        play_transaction(alloc, judge, owner, i as u64 + 1, transaction, report)?;
+        play_transaction(alloc, judges, owner, i as u64 + 1, transaction, game)?;
     }
     Ok(())
 }
 
-/// Plays a transaction. One that is rolled back works on a copy of the rows, and leaves none of its changes.
-fn play_transaction<J: Judge>(
+/// Plays a transaction. What it has written is kept where it commits, and else undone.
+fn play_transaction<J: Judge, C: CellJudge>(
     alloc: Global,
-    judge: &J,
+    judges: &Judges<J, C>,
     session: Session,
     number: u64,
     transaction: &Transaction,
-    report: &mut Report,
+    game: &mut Game,
 ) -> Result<(), AllocError>
-    ensures { OnOk result ((first : Rows) (before : List Numbered) → Played first before report.old
-        → Played first (before ++ record { session = session; number = number; plan = transaction.now } ∷ []) report.new) }
+    ensures { OnOk result ((c : Settings) (first : Rows) (before : List Numbered) → PlayedTo c first before game.old
+        → PlayedTo c first (before ++ record { session = session; number = number; plan = transaction.now } ∷ []) game.new) }
 {
+    let table = &mut game.table;
+    let answers = table.execute(alloc, &judges.shapes, &judges.cells, transaction)?;
     match transaction.end() {
         End::Commit => {
-            let answers = execute(alloc, judge, &mut report.rows, transaction)?;
+            table.keep();
             let commit = Commit {
                 session,
                 transaction: number,
                 answers,
             };
-            match report.commits.push(commit) {
+            match game.commits.push(commit) {
                 Ok(()) => Ok(()),
                 Err(_) => Err(AllocError),
             }
         }
         End::Rollback => {
-            let mut rows = report.rows.copy(alloc)?;
-            let _answers = execute(alloc, judge, &mut rows, transaction)?;
+            table.undo();
             let other = Other {
                 session,
                 transaction: number,
                 ending: Ending::RolledBack,
             };
-            match report.others.push(other) {
+            match game.others.push(other) {
                 Ok(()) => Ok(()),
                 Err(_) => Err(AllocError),
             }

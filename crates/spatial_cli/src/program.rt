@@ -7,17 +7,20 @@ ghost use Rattle.spatial_cli.specs.declared.status.Ending.{Ending};
 ghost use Rattle.spatial_cli.specs.Statuses.{message_of, status_of};
 ghost use Rattle.spatial_cli.specs.Words.{form_of};
 
-use crate::player::play;
+use crate::player::{Judges, play};
 use crate::status::{Ending, Status};
 use crate::words::{Form, Words};
+use sg_celltest::CellTest;
 use sg_io::{ReadEnd, Sink, Source, read_all, write_all};
 use sg_relate::Relate;
 use sg_report::report;
 use sg_script::{ReadScript, read_script};
 use std::alloc::{AllocError, Global};
+use std::thread::Threads;
 
 /// Does what the words ask for: for now `replay` alone has a form.
-pub fn spatial_main<S: Source, K: Sink, E: Sink>(
+pub fn spatial_main<R: Threads + Sync, S: Source, K: Sink, E: Sink>(
+    rt: &R,
     alloc: Global,
     words: &Words,
     source: &mut S,
@@ -49,12 +52,13 @@ pub fn spatial_main<S: Source, K: Sink, E: Sink>(
     ensures refuses { form_of words.now ≡ Some Form.Replay → HoldsNone (S.left source.old)
         → ¬ Rose (S.faults source.old) (S.faults source.new) → (result ≡ Status.Script) ⊎ (result ≡ Status.OutOfMemory) }
 {
-    replay_main(alloc, words, source, out, err)
+    replay_main(rt, alloc, words, source, out, err)
 }
 
 /// Reads a script, plays it, and prints what came of it: the commits with their answers, the other transactions,
 /// and the rows that are left. What went wrong is told on `err`; a failure there changes nothing.
-pub fn replay_main<S: Source, K: Sink, E: Sink>(
+pub fn replay_main<R: Threads + Sync, S: Source, K: Sink, E: Sink>(
+    rt: &R,
     alloc: Global,
     words: &Words,
     source: &mut S,
@@ -86,7 +90,7 @@ pub fn replay_main<S: Source, K: Sink, E: Sink>(
     ensures refuses { form_of words.now ≡ Some Form.Replay → HoldsNone (S.left source.old)
         → ¬ Rose (S.faults source.old) (S.faults source.new) → (result ≡ Status.Script) ⊎ (result ≡ Status.OutOfMemory) }
 {
-    let end = replay(alloc, words, source, out);
+    let end = replay(rt, alloc, words, source, out);
     tell(err, end.message());
     end.status()
 }
@@ -100,7 +104,13 @@ fn tell<E: Sink>(err: &mut E, message: &[u8])
     }
 }
 
-fn replay<S: Source, K: Sink>(alloc: Global, words: &Words, source: &mut S, out: &mut K) -> Ending
+fn replay<R: Threads + Sync, S: Source, K: Sink>(
+    rt: &R,
+    alloc: Global,
+    words: &Words,
+    source: &mut S,
+    out: &mut K,
+) -> Ending
     ensures done { result ≡ Ending.Done → IsReplay (S.left source.old) (S.left source.new) (K.taken out.old) (K.taken out.new) }
     ensures usage { (result ≡ Ending.Usage) ↔ (form_of words.now ≡ None) }
     ensures refused { result ≡ Ending.Refused → IsRefused (S.left source.old) (S.left source.new) }
@@ -113,12 +123,17 @@ fn replay<S: Source, K: Sink>(alloc: Global, words: &Words, source: &mut S, out:
 {
     match words.form() {
         None => Ending::Usage,
-        Some(Form::Replay) => replay_all(alloc, source, out),
+        Some(Form::Replay) => replay_all(rt, alloc, source, out),
     }
 }
 
 /// Replays the script that is left of the source.
-fn replay_all<S: Source, K: Sink>(alloc: Global, source: &mut S, out: &mut K) -> Ending
+fn replay_all<R: Threads + Sync, S: Source, K: Sink>(
+    rt: &R,
+    alloc: Global,
+    source: &mut S,
+    out: &mut K,
+) -> Ending
     ensures done { result ≡ Ending.Done → IsReplay (S.left source.old) (S.left source.new) (K.taken out.old) (K.taken out.new) }
     ensures usage { result ≢ Ending.Usage }
     ensures refused { result ≡ Ending.Refused → IsRefused (S.left source.old) (S.left source.new) }
@@ -134,7 +149,7 @@ fn replay_all<S: Source, K: Sink>(alloc: Global, source: &mut S, out: &mut K) ->
         Err(ReadEnd::TooLong) => return Ending::TooLong,
         Err(ReadEnd::OutOfMemory) => return Ending::OutOfMemory,
     };
-    let text = match replayed(alloc, bytes.as_slice()) {
+    let text = match replayed(rt, alloc, bytes.as_slice()) {
         Ok(text) => text,
         Err(Unplayed::Refused) => return Ending::Refused,
         Err(Unplayed::OutOfMemory) => return Ending::OutOfMemory,
@@ -154,7 +169,7 @@ enum Unplayed {
 }
 
 /// The text of a run of the script that the bytes spell.
-fn replayed(alloc: Global, bytes: &[u8]) -> Result<Vec<u8>, Unplayed>
+fn replayed<R: Threads + Sync>(rt: &R, alloc: Global, bytes: &[u8]) -> Result<Vec<u8>, Unplayed>
     requires { length bytes.now ≤ 67108864 }
     ensures text { IfOk result (λ text. IsTextOf bytes.now text.items) }
     ensures refused { IsErrOf result Unplayed.Refused → (fault : ScriptFault) × (script_in bytes.now ≡ Err fault) }
@@ -164,7 +179,11 @@ fn replayed(alloc: Global, bytes: &[u8]) -> Result<Vec<u8>, Unplayed>
         Err(ReadScript::Fault(_)) => return Err(Unplayed::Refused),
         Err(ReadScript::OutOfMemory) => return Err(Unplayed::OutOfMemory),
     };
-    let run = match play(alloc, &Relate, &script) {
+    let judges = Judges {
+        shapes: Relate,
+        cells: CellTest,
+    };
+    let run = match play(rt, alloc, &judges, &script) {
         Ok(run) => run,
         Err(AllocError) => return Err(Unplayed::OutOfMemory),
     };

@@ -5,6 +5,7 @@ use sg_io::{MemorySink, MemorySource};
 use std::alloc::Global;
 use std::process::Abort;
 use std::test::Fail;
+use std::thread::Threads;
 
 const FIRST: &[u8] =
     b"session 1\nbegin\ninsert 1 POINT (3 4)\nselect intersects POINT (3 4)\ncommit\n";
@@ -40,11 +41,16 @@ fn sink(alloc: Global) -> Result<MemorySink, Fail> {
 }
 
 /// A script is played, and the text that is printed is this one.
-pub fn prints(rt: &impl Abort, alloc: Global, script: &[u8], text: &[u8]) -> Result<(), Fail> {
+pub fn prints<R: Abort + Threads + Sync>(
+    rt: &R,
+    alloc: Global,
+    script: &[u8],
+    text: &[u8],
+) -> Result<(), Fail> {
     let mut source = source(alloc, script)?;
     let mut out = sink(alloc)?;
     let mut err = sink(alloc)?;
-    let status = spatial_main(alloc, &replay(alloc)?, &mut source, &mut out, &mut err);
+    let status = spatial_main(rt, alloc, &replay(alloc)?, &mut source, &mut out, &mut err);
     assert_eq!(rt; status, Status::Done);
     assert!(rt; out.taken() == text);
     assert!(rt; err.taken().is_empty());
@@ -52,11 +58,11 @@ pub fn prints(rt: &impl Abort, alloc: Global, script: &[u8], text: &[u8]) -> Res
 }
 
 /// A text is refused, and nothing is printed of it.
-fn refuses(rt: &impl Abort, alloc: Global, script: &[u8]) -> Result<(), Fail> {
+fn refuses<R: Abort + Threads + Sync>(rt: &R, alloc: Global, script: &[u8]) -> Result<(), Fail> {
     let mut source = source(alloc, script)?;
     let mut out = sink(alloc)?;
     let mut err = sink(alloc)?;
-    let status = replay_main(alloc, &replay(alloc)?, &mut source, &mut out, &mut err);
+    let status = replay_main(rt, alloc, &replay(alloc)?, &mut source, &mut out, &mut err);
     assert_eq!(rt; status.number(), 2);
     assert!(rt; out.taken().is_empty());
     assert!(rt; err.taken() == b"script refused\n".as_slice());
@@ -133,13 +139,20 @@ fn tells_faults(rt: HostRuntime) -> Result<(), Fail> {
     );
     let mut out = sink(alloc)?;
     let mut err = sink(alloc)?;
-    let status = replay_main(alloc, &replay(alloc)?, &mut failing, &mut out, &mut err);
+    let status = replay_main(
+        &rt,
+        alloc,
+        &replay(alloc)?,
+        &mut failing,
+        &mut out,
+        &mut err,
+    );
     assert_eq!(rt; status.number(), 3);
     assert!(rt; out.taken().is_empty());
     assert!(rt; err.taken() == b"read fault\n".as_slice());
     let mut first = source(alloc, FIRST)?;
     let mut cut = MemorySink::new(alloc, 10, 65_536, Vec::from_slice(alloc, &[2u32])?)?;
-    let status = replay_main(alloc, &replay(alloc)?, &mut first, &mut cut, &mut err);
+    let status = replay_main(&rt, alloc, &replay(alloc)?, &mut first, &mut cut, &mut err);
     assert_eq!(rt; status.number(), 4);
     assert!(rt; cut.taken() == b"commit 1 s".as_slice());
     assert!(rt; err.taken() == b"read fault\nwrite fault\n".as_slice());
@@ -153,7 +166,7 @@ fn tells_usage(rt: HostRuntime) -> Result<(), Fail> {
     let mut out = sink(alloc)?;
     let mut err = MemorySink::new(alloc, 1_000, 65_536, Vec::new(alloc))?;
     let none = Words::new(alloc);
-    let status = spatial_main(alloc, &none, &mut first, &mut out, &mut err);
+    let status = spatial_main(&rt, alloc, &none, &mut first, &mut out, &mut err);
     assert_eq!(rt; status.number(), 1);
     assert!(rt; err.taken() == USAGE);
     let mut twice = replay(alloc)?;
@@ -161,7 +174,7 @@ fn tells_usage(rt: HostRuntime) -> Result<(), Fail> {
     assert_eq!(rt; twice.len(), 2);
     assert!(rt; twice.at(1) == Some(b"replay".as_slice()));
     assert!(rt; twice.at(2).is_none());
-    let status = replay_main(alloc, &twice, &mut first, &mut out, &mut err);
+    let status = replay_main(&rt, alloc, &twice, &mut first, &mut out, &mut err);
     assert_eq!(rt; status, Status::Usage);
     assert!(rt; out.taken().is_empty());
     Ok(())
