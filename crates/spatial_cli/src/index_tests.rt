@@ -53,12 +53,19 @@ fn empty_shapes_in_an_index(rt: HostRuntime) -> Result<(), Fail> {
 
 #[test]
 fn another_window(rt: HostRuntime) -> Result<(), Fail> {
-    // one cell of the query in place of the four below it: a filter finds the row in the corner too
+    // the line has one cell of level 2, 5 units wide, which has the point too
     prints(
         &rt,
         rt.alloc(),
-        b"window 1\ngrid 0 0 80 80 low low low low\nrow 1 POINT (1 1)\nrow 2 POINT (19 19)\nsession 1\nbegin\nfilter POINT (1 1)\nplan intersects LINESTRING (0 0, 4 0)\ncommit\n",
-        b"commit 1 session 1 transaction 1\n  keys 1\n  plan 2 0 2 keys\nrows 2\n  1 POINT (1 1)\n  2 POINT (19 19)\n",
+        b"window 1\ngrid 0 0 80 80 low low low low\nrow 1 POINT (1 1)\nsession 1\nbegin\nplan intersects LINESTRING (0 0, 4 0)\nfilter POINT (1 1)\ncommit\n",
+        b"commit 1 session 1 transaction 1\n  plan 1 0 1 keys\n  keys 1\nrows 1\n  1 POINT (1 1)\n",
+    )?;
+    // and with more cells those of level 4 along the axis, which don't
+    prints(
+        &rt,
+        rt.alloc(),
+        b"grid 0 0 80 80 low low low low\nrow 1 POINT (1 1)\nsession 1\nbegin\nplan intersects LINESTRING (0 0, 4 0)\nfilter POINT (1 1)\ncommit\n",
+        b"commit 1 session 1 transaction 1\n  plan 0 0 0 keys\n  keys 1\nrows 1\n  1 POINT (1 1)\n",
     )
 }
 
