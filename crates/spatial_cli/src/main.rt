@@ -2,6 +2,8 @@
 #![tactic(auto)]
 
 #[cfg(test)]
+mod alike_tests;
+#[cfg(test)]
 mod index_tests;
 mod laws;
 mod player;

@@ -24,7 +24,7 @@ const SESSIONS_TEXT: &[u8] =
     b"commit 1 session 1 transaction 1\n  inserted\n  keys 2 4\ncommit 2 session 1 transaction 3\n  done\n  shape POINT (7 7)\ncommit 3 session 2 transaction 2\n  missing\n  done\n  none\ncommit 4 session 2 transaction 3\n  duplicate\ncommit 5 session 5 transaction 1\ncommit 6 session 5 transaction 2\n  keys 4\ncommit 7 session 5 transaction 3\n  deleted 4\n  missing\ncommit 8 session 5 transaction 4\n  inserted\n  keys 1 10\n  keys\nrolled back session 1 transaction 2\nrolled back session 2 transaction 1\nrows 3\n  1 POINT (7 7)\n  3 POINT EMPTY\n  10 POINT (7 7)\n";
 
 /// The one word `replay`.
-fn replay(alloc: Global) -> Result<Words, Fail> {
+pub fn replay(alloc: Global) -> Result<Words, Fail> {
     let mut words = Words::new(alloc);
     words
         .push(Vec::from_slice(alloc, b"replay")?)
@@ -36,7 +36,7 @@ fn source(alloc: Global, text: &[u8]) -> Result<MemorySource, Fail> {
     Ok(MemorySource::new(Vec::from_slice(alloc, text)?, 100, Vec::new(alloc)))
 }
 
-fn sink(alloc: Global) -> Result<MemorySink, Fail> {
+pub fn sink(alloc: Global) -> Result<MemorySink, Fail> {
     Ok(MemorySink::new(alloc, 100, 65_536, Vec::new(alloc))?)
 }
 
