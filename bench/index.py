@@ -4,8 +4,8 @@
     bench/index.py PROGRAM
 
 PROGRAM is the built spatial_cli. Tables of 200, 1,000 and 5,000 random rectangles are searched with 1,000 small
-windows. The time of the selects is that of the processor for the whole script less that for the script without
-them, the least of several runs each. The exponent tells how it grows from one table to the next: 1 would be the
+windows. The time of the selects is that of the processor for a script that has them several times over, less that for a
+script that has them once, divided by how many times more; the least of several runs each. The exponent tells how it grows from one table to the next: 1 would be the
 growth of the table itself. Where sqlite3 with SpatiaLite is installed, its times for the same rows and windows, with
 its R-tree, stand beside, and the numbers of keys found are compared.
 """
@@ -19,7 +19,8 @@ import subprocess
 import sys
 import tempfile
 
-RUNS = 3
+RUNS = 2
+TIMES = 21
 SIDE = 100_000
 SELECTS = 1_000
 WINDOW = 200
@@ -57,9 +58,11 @@ def found(text):
 
 
 def own(program, rows, windows, grid):
-    without, _ = processor([program, "replay"], script(rows, [], grid))
-    whole, text = processor([program, "replay"], script(rows, windows, grid))
-    return without, max(whole - without, 1e-6), found(text)
+    """Load and select times of the program, and how many keys it found."""
+    load, _ = processor([program, "replay"], script(rows, [], grid))
+    once, text = processor([program, "replay"], script(rows, windows, grid))
+    often, _ = processor([program, "replay"], script(rows, windows * TIMES, grid))
+    return load, max(often - once, 1e-6) / (TIMES - 1), found(text)
 
 
 def spatialite(extension, rows, windows):
@@ -73,9 +76,10 @@ def spatialite(extension, rows, windows):
         f"AND search_frame = GeomFromText('{window}', 0)) AND Intersects(g, GeomFromText('{window}', 0));"
         for window in windows
     ]
-    without, _ = processor(["sqlite3", ":memory:"], "\n".join(head))
-    whole, text = processor(["sqlite3", ":memory:"], "\n".join(head + asks))
-    return without, max(whole - without, 1e-6), sum(line.startswith("keys") for line in text.splitlines())
+    load, _ = processor(["sqlite3", ":memory:"], "\n".join(head))
+    once, text = processor(["sqlite3", ":memory:"], "\n".join(head + asks))
+    often, _ = processor(["sqlite3", ":memory:"], "\n".join(head + asks * TIMES))
+    return load, max(often - once, 1e-6) / (TIMES - 1), sum(line.startswith("keys") for line in text.splitlines())
 
 
 def main():
@@ -91,7 +95,7 @@ def main():
         if before:
             line += f"  exponent {math.log(selects / before[1]) / math.log(count / before[0]):5.2f}"
         before = (count, selects)
-        if count <= 1_000:
+        if count <= 200:
             _, plain, same = own(program, rows, windows, False)
             line += f"  without an index {plain * 1000:8.1f} ms"
             line += "" if same == keys else f"  OTHER KEYS {same}"
