@@ -4,7 +4,7 @@
 //! Memory is taken by reserving alone, so that no write and no end of a transaction can fail.
 #![tactic(auto)]
 
-ghost use Rattle.std.specs.Prelude.{◌≡◌, ◌+◌, ◌≤◌, ◌⊎◌, [], true, is_some, IsSome, IfSome, IfNone, OnOk, None, Some};
+ghost use Rattle.std.specs.Prelude.{◌≡◌, ◌+◌, ◌≤◌, ◌⊎◌, [], true, is_some, IsSome, IfSome, IfNone, IsOk, OnOk, None, Some};
 ghost use Rattle.std.specs.Ordering.{nat_cmp};
 ghost use Rattle.std.specs.Option.{option_copied, option_map};
 ghost use Rattle.std.specs.Map.{lookup_entry};
@@ -62,12 +62,13 @@ impl CellRows {
 
     /// Makes room for at least `more` new pairs, so that as many need no memory.
     ///
-    /// `AllocError` is want of memory. The rows stay as they were in either case, and no room that
-    /// was there is lost.
+    /// `AllocError` is want of memory, and never comes where there is as much room. The rows stay as they
+    /// were in either case, and no room that was there is lost.
     pub fn reserve(&mut self, more: usize) -> Result<(), AllocError>
         ensures rows { self.new.rows ≡ self.old.rows }
         ensures spare { OnOk result (more ≤ self.new.spare) }
         ensures kept { self.old.spare ≤ self.new.spare }
+        ensures there { more ≤ self.old.spare → IsOk result }
     {
         self.by_cell.reserve(more)?;
         self.by_row.reserve(more)

@@ -3,7 +3,7 @@
 //! Room for pairs is reserved before it is needed, so that putting one in can't fail.
 #![tactic(auto)]
 
-ghost use Rattle.std.specs.Prelude.{◌≡◌, ◌+◌, ◌≤◌, [], ◌||◌, ◌&&◌, not, true, false, length, find, slice_get, IfSome, IfNone, OnOk, IsTrue};
+ghost use Rattle.std.specs.Prelude.{◌≡◌, ◌+◌, ◌≤◌, [], ◌||◌, ◌&&◌, not, true, false, length, find, slice_get, IfSome, IfNone, OnOk, IsOk, IsTrue};
 ghost use Rattle.std.specs.Ordering.{is_eq};
 ghost use Rattle.sg_groups.specs.Groups.{pair_cmp, HasRisingPairs, has_pair, items_of, is_above, item_in};
 
@@ -46,12 +46,20 @@ impl<A: Ord + Copy, B: Ord + Copy> Groups<A, B> {
         }
     }
 
-    /// Makes room for at least `more` new pairs. `AllocError` is want of memory. The pairs stay as
-    /// they were in either case, and no room is lost.
+    /// For how many new pairs there is room.
+    pub fn spare(&self) -> usize
+        ensures { result ≡ self.now.spare }
+    {
+        self.entries.spare()
+    }
+
+    /// Makes room for at least `more` new pairs. `AllocError` is want of memory, and never comes where
+    /// there is as much room. The pairs stay as they were in either case, and no room is lost.
     pub fn reserve(&mut self, more: usize) -> Result<(), AllocError>
         ensures pairs { self.new.pairs ≡ self.old.pairs }
         ensures spare { OnOk result (more ≤ self.new.spare) }
         ensures kept { self.old.spare ≤ self.new.spare }
+        ensures there { more ≤ self.old.spare → IsOk result }
         ensures rising { HasRisingPairs A.cmp B.cmp self.new.pairs }
     {
         self.entries.reserve(more)

@@ -5,6 +5,7 @@ use std::test::Fail;
 fn groups_of_numbers(rt: HostRuntime) -> Result<(), Fail> {
     let mut groups: Groups<u8, u32> = Groups::new(rt.alloc());
     groups.reserve(3)?;
+    assert!(rt; groups.spare() >= 3);
     groups.insert_reserved(2, 20);
     groups.insert_reserved(2, 10);
     groups.insert_reserved(1, 30);

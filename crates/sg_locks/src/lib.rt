@@ -4,7 +4,7 @@
 //! new grants there is room. Memory is taken by `reserve` alone.
 #![tactic(auto)]
 
-ghost use Rattle.std.specs.Prelude.{◌≡◌, ◌+◌, ◌≤◌, [], ◌&&◌, ℕ, false, not, eqb, OnOk};
+ghost use Rattle.std.specs.Prelude.{◌≡◌, ◌+◌, ◌≤◌, [], ◌&&◌, ℕ, false, not, eqb, IsOk, OnOk};
 ghost use Rattle.sg_modes.specs.Modes.{is_compatible};
 ghost use Rattle.sg_modes.specs.Sessions.{has_session};
 ghost use Rattle.sg_locks.specs.Grants.{has_grant, has_range, blocks, HasRisingGrants, IsUnblocked, AddsGrant, RemovesSession};
@@ -57,12 +57,13 @@ impl<K: Ord + Copy> Locks<K> {
 
     /// Makes room for at least `more` new grants, so that as many need no memory.
     ///
-    /// `AllocError` is want of memory. The grants stay as they were in either case, and no room
-    /// that was there is lost.
+    /// `AllocError` is want of memory, and never comes where there is as much room. The grants stay as
+    /// they were in either case, and no room that was there is lost.
     pub fn reserve(&mut self, more: usize) -> Result<(), AllocError>
         ensures grants { self.new.grants ≡ self.old.grants }
         ensures spare { OnOk result (more ≤ self.new.spare) }
         ensures kept { self.old.spare ≤ self.new.spare }
+        ensures there { more ≤ self.old.spare → IsOk result }
         ensures rising { HasRisingGrants K.cmp self.new.grants }
     {
         self.by_key.reserve(more)?;

@@ -5,7 +5,7 @@
 //! transaction can fail.
 #![tactic(auto)]
 
-ghost use Rattle.std.specs.Prelude.{◌≡◌, ◌+◌, ◌≤◌, ◌⊎◌, [], ◌∷◌, ◌++◌, length, map, slice_get, is_some, IsSome, IfSome, IfOk, OnOk, OnErr, None, Some};
+ghost use Rattle.std.specs.Prelude.{◌≡◌, ◌+◌, ◌≤◌, ◌⊎◌, [], ◌∷◌, ◌++◌, length, map, slice_get, is_some, IsSome, IfSome, IfOk, IsOk, OnOk, OnErr, None, Some};
 ghost use Rattle.std.specs.Ordering.{nat_cmp};
 ghost use Rattle.std.specs.Option.{option_copied, option_map};
 ghost use Rattle.std.specs.Map.Iter.{deref_pair};
@@ -74,12 +74,13 @@ impl Rows {
 
     /// Makes room for at least `more` new keys, so that as many need no memory.
     ///
-    /// `AllocError` is want of memory. The rows stay as they were in either case, and no room that
-    /// was there is lost.
+    /// `AllocError` is want of memory, and never comes where there is as much room. The rows stay as they
+    /// were in either case, and no room that was there is lost.
     pub fn reserve(&mut self, more: usize) -> Result<(), AllocError>
         ensures rows { self.new.rows ≡ self.old.rows }
         ensures spare { OnOk result (more ≤ self.new.spare) }
         ensures kept { self.old.spare ≤ self.new.spare }
+        ensures there { more ≤ self.old.spare → IsOk result }
     {
         self.versions.reserve(more)
     }

@@ -22,6 +22,14 @@ writer_of (Some v) = v.writer
 abbrev pub free : {V : Type 0} → Version V → ℕ
 free v = cond (is_none v.writer) 1 0
 
+-- 1 where there is one
+abbrev pub taken : {V : Type 0} → Version V → ℕ
+taken v = cond (is_none v.writer) 0 1
+
+-- how many keys have a writer
+abbrev pub count_written : {K V : Type 0} → List (K × Version V) → ℕ
+count_written rows = sum_by taken (values_of rows)
+
 -- how many keys have no writer
 abbrev pub unwritten : {K V : Type 0} → List (K × Version V) → ℕ
 unwritten rows = sum_by free (values_of rows)

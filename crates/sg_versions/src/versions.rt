@@ -1,4 +1,4 @@
-ghost use Rattle.std.specs.Prelude.{◌≡◌, ◌+◌, ◌≤◌, ◌⊎◌, [], cond, length, is_some, is_none, IsSome, OnOk, Some, None};
+ghost use Rattle.std.specs.Prelude.{◌≡◌, ◌+◌, ◌≤◌, ◌⊎◌, [], cond, length, is_some, is_none, IsSome, IsOk, OnOk, Some, None};
 ghost use Rattle.std.specs.Ordering.{is_eq};
 ghost use Rattle.std.specs.Option.{option_copied, option_map};
 ghost use Rattle.std.specs.Map.{lookup, remove_entry};
@@ -24,11 +24,14 @@ use std::marker::Model;
 pub struct Versions<K: Ord + Copy, V: Drop> {
     rows: Pages<K, Version<V>>,
     listed: Groups<Session, K>,
+    // How many keys have a writer.
+    written_keys: usize,
 }
 
 impl<K: Ord + Copy, V: Drop> Model for Versions<K, V> {
+    ghost use Rattle.std.specs.Prelude.{◌≡◌};
     ghost use Rattle.sg_versions.specs.Versions.{Versioned, versioned_code};
-    ghost use Rattle.sg_versions.specs.Writers.{IsIndexed, seen_as};
+    ghost use Rattle.sg_versions.specs.Writers.{IsIndexed, count_written, seen_as};
 
     ghost Value = { Versioned K V };
 
@@ -36,7 +39,7 @@ impl<K: Ord + Copy, V: Drop> Model for Versions<K, V> {
 
     ghost view = { λ it. seen_as it.rows it.listed };
 
-    ghost invariant = { λ it. IsIndexed K.cmp it.rows.pairs it.listed.pairs it.listed.spare };
+    ghost invariant = { λ it. IsIndexed K.cmp it.rows.pairs it.listed.pairs it.listed.spare × (it.written_keys ≡ count_written it.rows.pairs) };
 }
 
 impl<K: Ord + Copy, V: Drop> Versions<K, V> {
@@ -48,20 +51,26 @@ impl<K: Ord + Copy, V: Drop> Versions<K, V> {
         Versions {
             rows: Pages::new(alloc),
             listed: Groups::new(alloc),
+            written_keys: 0,
         }
     }
 
     /// Makes room for at least `more` new keys, so that as many need no memory.
     ///
-    /// `AllocError` is want of memory. The rows stay as they were in either case, and no room that
-    /// was there is lost.
+    /// `AllocError` is want of memory, and never comes where there is as much room. The rows stay as they
+    /// were in either case, and no room that was there is lost.
     pub fn reserve(&mut self, more: usize) -> Result<(), AllocError>
         ensures rows { self.new.rows ≡ self.old.rows }
         ensures spare { OnOk result (more ≤ self.new.spare) }
         ensures kept { self.old.spare ≤ self.new.spare }
+        ensures there { more ≤ self.old.spare → IsOk result }
     {
         self.rows.reserve(more)?;
-        match self.rows.len().checked_add(more) {
+        let unwritten = self.rows.len() - self.written_keys;
+        if more <= self.listed.spare() - unwritten {
+            return Ok(());
+        }
+        match unwritten.checked_add(more) {
             None => Err(AllocError),
             Some(room) => self.listed.reserve(room),
         }
@@ -132,6 +141,9 @@ impl<K: Ord + Copy, V: Drop> Versions<K, V> {
         };
         self.rows.insert_reserved(key, version);
         self.listed.insert_reserved(s, key);
+        let keys = self.rows.len();
+        prove!(self.written_keys < keys);
+        self.written_keys += 1;
     }
 
     /// Writes at a key for the session, which is its writer then; `None` leaves no value there. No
@@ -145,6 +157,9 @@ impl<K: Ord + Copy, V: Drop> Versions<K, V> {
     {
         if write_row(&mut self.rows, s, &key, value) {
             self.listed.insert_reserved(s, key);
+            let keys = self.rows.len();
+            prove!(self.written_keys < keys);
+            self.written_keys += 1;
         }
     }
 
@@ -176,6 +191,7 @@ impl<K: Ord + Copy, V: Drop> Versions<K, V> {
         while let Some(key) = self.listed.first(&s) {
             self.listed.remove(&s, &key);
             settle_row(&mut self.rows, &key, end);
+            self.written_keys -= 1;
         }
     }
 }
