@@ -28,6 +28,15 @@ def boxes(count, side):
     return shapes
 
 
+def rectangles(count, least, most, side):
+    shapes = []
+    for _ in range(count):
+        x, y = (random.randint(least, most - side) for _ in range(2))
+        w, h = (random.randint(1, side) for _ in range(2))
+        shapes.append(f"POLYGON (({x} {y}, {x + w} {y}, {x + w} {y + h}, {x} {y + h}, {x} {y}))")
+    return shapes
+
+
 def star(count, inner, outer):
     spots = []
     for k in range(count):
@@ -62,7 +71,10 @@ def main():
         show(program, "boxes of 10,000", boxes(100, 10_000), density, 16, 5)
         show(program, "boxes of 1,000,000", boxes(100, 1_000_000), density, 16, 5)
     for count in (64, 256, 2047):
-        show(program, f"a star of {count} spots", star(count, 3_000_000, 9_000_000), "medium", 16, 1)
+        for limit in (16, 256, 8192):
+            show(program, f"a star of {count} spots", star(count, 3_000_000, 9_000_000), "medium", limit, 5)
+    show(program, "rows: 5,000 boxes up to 900,000", rectangles(5_000, -15_000_000, 15_000_000, 900_000), "medium", 16, 1)
+    show(program, "windows: 1,000 boxes up to 200", rectangles(1_000, -10_000, 10_000, 200), "medium", 16, 5)
     show(program, "the whole box", ["POLYGON ((-16000000 -16000000, 16000000 -16000000, 16000000 16000000, -16000000 16000000, -16000000 -16000000))"], "high", 8192, 100)
 
 

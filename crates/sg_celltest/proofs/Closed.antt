@@ -17,10 +17,8 @@ use Rattle.sg_shape.specs.Shapes.{status_in}
 use Rattle.sg_shape.specs.Matrix.{Meets, IsMatrix}
 use Rattle.sg_shape.specs.Boxes.{is_held, within, in_box, IsCellBox}
 use Rattle.sg_shape.specs.Grown.{as_shape}
-use Rattle.sg_celltest.specs.declared.pieces.Sought.{Sought}
-use Rattle.sg_celltest.specs.declared.pieces.Sought.TheVariants.{Held, Missing}
 use Rattle.sg_celltest.specs.declared.spans.Span.{Span}
-use Rattle.sg_celltest.specs.Pieces.{IsPiece, Finds, closed, may_find}
+use Rattle.sg_celltest.specs.Pieces.{IsPiece, Misses, closed}
 use Rattle.sg_celltest.proofs.Rectangle.{ring_of}
 use Rattle.sg_celltest.proofs.Insides.{box_held}
 
@@ -31,7 +29,7 @@ ends c = record { xmin = c.xlow; ymin = c.ylow; xmax = c.xhigh; ymax = c.yhigh }
 pub made : (c : CellBox) (b : Bounds) (xs ys : Span) → b ≡ record { xmin = xs.low; ymin = ys.low; xmax = xs.high; ymax = ys.high } → xs ≡ record { low = c.xlow; high = c.xhigh } → ys ≡ record { low = c.ylow; high = c.yhigh } → b ≡ ends c
 made c b xs ys e f g = e ∙ (λ i. record { xmin = (f i).low; ymin = (g i).low; xmax = (f i).high; ymax = (g i).high })
 
-ends_piece : (c : CellBox) → IsCellBox c → IsPiece (ends c)
+pub ends_piece : (c : CellBox) → IsCellBox c → IsPiece (ends c)
 ends_piece c i =
     let a = i.across in
     let u = i.up in
@@ -83,30 +81,8 @@ module _ (s : Shape) (c : CellBox) (i : IsCellBox c) where
   solid_held : (p : Point) → in_box (closed c) p ≡ true → (status_in (as_shape (ends c)) p ≡ In) ⊎ (status_in (as_shape (ends c)) p ≡ Bd)
   solid_held p h = in_or_bd (status_in (as_shape (ends c)) p) (held_is c p i ∙ h)
 
-  by_matrix : (m : Matrix) (w : Sought) → IsMatrix m (as_shape (ends c)) s → (may_find m w ≡ true) ↔ Finds w s (in_box (closed c))
-  by_matrix m Held k = (
-    λ t. elim (either_true (m.ii || m.ib) (m.bi || m.bb) t) [
-      | inl a ↦ elim (either_true m.ii m.ib a) [
-        | inl e ↦ let q = inner In In refl (k.ii.0 e) in (q.0, q.1, ap is_held q.2)
-        | inr e ↦ let q = inner In Bd refl (k.ib.0 e) in (q.0, q.1, ap is_held q.2)
-      ]
-      | inr a ↦ elim (either_true m.bi m.bb a) [
-        | inl e ↦ let q = inner Bd In refl (k.bi.0 e) in (q.0, q.1, ap is_held q.2)
-        | inr e ↦ let q = inner Bd Bd refl (k.bb.0 e) in (q.0, q.1, ap is_held q.2)
-      ]
-    ],
-    λ f. elim (solid_held f.0 f.1) [
-      | inl a ↦ elim (in_or_bd (status_in s f.0) f.2) [
-        | inl e ↦ or_left (m.ii || m.ib) (m.bi || m.bb) (or_left m.ii m.ib (k.ii.1 (f.0, a, e)))
-        | inr e ↦ or_left (m.ii || m.ib) (m.bi || m.bb) (or_right m.ii m.ib (k.ib.1 (f.0, a, e)))
-      ]
-      | inr a ↦ elim (in_or_bd (status_in s f.0) f.2) [
-        | inl e ↦ or_right (m.ii || m.ib) (m.bi || m.bb) (or_left m.bi m.bb (k.bi.1 (f.0, a, e)))
-        | inr e ↦ or_right (m.ii || m.ib) (m.bi || m.bb) (or_right m.bi m.bb (k.bb.1 (f.0, a, e)))
-      ]
-    ],
-  )
-  by_matrix m Missing k = (
+  by_matrix : (m : Matrix) → IsMatrix m (as_shape (ends c)) s → ((m.io || m.bo) ≡ true) ↔ Misses s (in_box (closed c))
+  by_matrix m k = (
     λ t. elim (either_true m.io m.bo t) [
       | inl e ↦ let q = inner In Out refl (k.io.0 e) in (q.0, q.1, ap (λ j. not (is_held j)) q.2)
       | inr e ↦ let q = inner Bd Out refl (k.bo.0 e) in (q.0, q.1, ap (λ j. not (is_held j)) q.2)
@@ -117,9 +93,9 @@ module _ (s : Shape) (c : CellBox) (i : IsCellBox c) where
     ],
   )
 
-pub closed_is : (s solid : Shape) (c : CellBox) (m : Matrix) (w : Sought) (r : Bool) → IsCellBox c → solid ≡ as_shape (ends c) → IsMatrix m solid s → r ≡ may_find m w → IsTrue r ↔ Finds w s (in_box (closed c))
-closed_is s solid c m w r i e k q =
-    let f = by_matrix s c i m w (subst (λ (t : Shape). IsMatrix m t s) e k) in
+pub closed_is : (s solid : Shape) (c : CellBox) (m : Matrix) (r : Bool) → IsCellBox c → solid ≡ as_shape (ends c) → IsMatrix m solid s → r ≡ (m.io || m.bo) → IsTrue r ↔ Misses s (in_box (closed c))
+closed_is s solid c m r i e k q =
+    let f = by_matrix s c i m (subst (λ (t : Shape). IsMatrix m t s) e k) in
     (λ t. f.0 (sym q ∙ t), λ h. q ∙ f.1 h)
 
 -- ---- what isn't in the closed box isn't in the cell
@@ -137,5 +113,5 @@ in_closed c p h =
     (wider c.xlow c.xhigh p.x p.n c.closed_x (left_true (within c.xlow c.xhigh c.closed_x p.x p.n) (within c.ylow c.yhigh c.closed_y p.y p.n) h))
     (wider c.ylow c.yhigh p.y p.n c.closed_y (right_true (within c.xlow c.xhigh c.closed_x p.x p.n) (within c.ylow c.yhigh c.closed_y p.y p.n) h))
 
-pub none_closed : (r : Bool) (w : Sought) (s : Shape) (c : CellBox) → (IsTrue r ↔ Finds w s (in_box (closed c))) → r ≡ false → IsTrue false ↔ Finds w s (in_box c)
-none_closed r w s c h e = (λ z. absurd (cc), λ f. absurd (let t : r ≡ true = h.1 (f.0, in_closed c f.0 f.1, f.2) in let z : true ≡ false = sym t ∙ e in cc))
+pub none_closed : (r : Bool) (s : Shape) (c : CellBox) → (IsTrue r ↔ Misses s (in_box (closed c))) → r ≡ false → IsTrue false ↔ Misses s (in_box c)
+none_closed r s c h e = (λ z. absurd (cc), λ f. absurd (let t : r ≡ true = h.1 (f.0, in_closed c f.0 f.1, f.2) in let z : true ≡ false = sym t ∙ e in cc))

@@ -4,3 +4,6 @@ pub mod Thirds
 pub mod Outside
 pub mod Found
 pub mod Closed
+pub mod Constant
+pub mod Corners
+mod Once

@@ -1,79 +1,81 @@
 ghost use Rattle.std.specs.Prelude.{◌≡◌, ◌↔◌, ◌&&◌, ◌≤ℤ◌, IsTrue, IfOk};
 ghost use Rattle.sg_shape.specs.Boxes.{IsCellBox, within, in_box};
 ghost use Rattle.sg_shape.specs.Sound.{IsSound, coord_ok};
-ghost use Rattle.sg_celltest.specs.Pieces.{is_between, Finds};
+ghost use Rattle.sg_celltest.specs.Pieces.{is_between, Misses};
 
-use crate::pieces::{Sought, finds_closed, finds_inside};
+use crate::pieces::{missed_closed, misses_inside};
 use crate::spans::{Span, across, bottom, left, piece, right, top, up};
 use sg_shape::{CellBox, Judge, Shape};
 use std::alloc::{AllocError, Global};
 
-/// Whether some point of the cell is sought. Where none of the cell with all its edges is, one matrix tells.
-pub(crate) fn finds<J: Judge>(
+/// Whether some point of the cell is none of the shape. One matrix tells, that of the cell with all its edges, unless
+/// the shape misses points of these edges alone.
+pub(crate) fn misses<J: Judge>(
     judge: &J,
     alloc: Global,
     shape: &Shape,
     cell: &CellBox,
-    sought: Sought,
 ) -> Result<bool, AllocError>
     requires sound { IsSound shape.now }
     requires sides { IsCellBox cell.now }
-    ensures { IfOk result (λ found. IsTrue found ↔ Finds sought shape.now (in_box cell.now)) }
+    ensures { IfOk result (λ missed. IsTrue missed ↔ Misses shape.now (in_box cell.now)) }
 {
-    if !finds_closed(judge, alloc, shape, cell, sought)? {
+    let missed = missed_closed(judge, alloc, shape, cell)?;
+    if missed.inside {
+        return Ok(true);
+    }
+    if !missed.anywhere {
         return Ok(false);
     }
-    finds_in_pieces(judge, alloc, shape, cell, sought)
+    misses_in_pieces(judge, alloc, shape, cell)
 }
 
 /// The same by the pieces of the cell.
-fn finds_in_pieces<J: Judge>(
+fn misses_in_pieces<J: Judge>(
     judge: &J,
     alloc: Global,
     shape: &Shape,
     cell: &CellBox,
-    sought: Sought,
 ) -> Result<bool, AllocError>
     requires sound { IsSound shape.now }
     requires sides { IsCellBox cell.now }
-    ensures { IfOk result (λ found. IsTrue found ↔ Finds sought shape.now (in_box cell.now)) }
+    ensures { IfOk result (λ missed. IsTrue missed ↔ Misses shape.now (in_box cell.now)) }
 {
-    if finds_across(judge, alloc, shape, cell, across(cell), sought)? {
+    if misses_across(judge, alloc, shape, cell, across(cell))? {
         return Ok(true);
     }
-    if finds_across(judge, alloc, shape, cell, left(cell), sought)? {
+    if misses_across(judge, alloc, shape, cell, left(cell))? {
         return Ok(true);
     }
     if !cell.closed_x {
         return Ok(false);
     }
-    finds_across(judge, alloc, shape, cell, right(cell), sought)
+    misses_across(judge, alloc, shape, cell, right(cell))
 }
 
-/// Whether some point of the cell is sought whose x lies in the span.
-fn finds_across<J: Judge>(
+/// Whether some point of the cell whose x lies in the span is none of the shape.
+fn misses_across<J: Judge>(
     judge: &J,
     alloc: Global,
     shape: &Shape,
     cell: &CellBox,
     xs: Span,
-    sought: Sought,
 ) -> Result<bool, AllocError>
     requires sound { IsSound shape.now }
     requires sides { IsCellBox cell.now }
     requires order { xs.low ≤ℤ xs.high }
     requires left { IsTrue (coord_ok xs.low) }
     requires right { IsTrue (coord_ok xs.high) }
-    ensures { IfOk result (λ found. IsTrue found ↔ Finds sought shape.now (λ p. is_between xs.low xs.high p.x p.n && within cell.now.ylow cell.now.yhigh cell.now.closed_y p.y p.n)) }
+    ensures { IfOk result (λ missed. IsTrue missed ↔ Misses shape.now (λ p. is_between xs.low xs.high p.x p.n && within cell.now.ylow cell.now.yhigh cell.now.closed_y p.y p.n)) }
 {
-    if finds_inside(judge, alloc, shape, piece(xs, up(cell)), sought)? {
+    if misses_inside(judge, alloc, shape, piece(xs, up(cell)))? {
         return Ok(true);
     }
-    if finds_inside(judge, alloc, shape, piece(xs, bottom(cell)), sought)? {
+    if misses_inside(judge, alloc, shape, piece(xs, bottom(cell)))? {
         return Ok(true);
     }
     if !cell.closed_y {
         return Ok(false);
     }
-    finds_inside(judge, alloc, shape, piece(xs, top(cell)), sought)
+    misses_inside(judge, alloc, shape, piece(xs, top(cell)))
 }

@@ -1,75 +1,64 @@
-ghost use Rattle.std.specs.Prelude.{◌≡◌, ◌↔◌, IsTrue, IfOk, false};
+ghost use Rattle.std.specs.Prelude.{◌≡◌, ◌↔◌, ◌||◌, IsTrue, IfOk, false};
 ghost use Rattle.sg_shape.specs.Boxes.{IsCellBox, in_box};
 ghost use Rattle.sg_shape.specs.Grown.{as_shape, by_sides};
 ghost use Rattle.sg_shape.specs.Matrix.{IsMatrix};
 ghost use Rattle.sg_shape.specs.Sound.{IsSound};
-ghost use Rattle.sg_celltest.specs.Pieces.{in_piece, IsPiece, Finds, is_found, closed, may_find};
+ghost use Rattle.sg_celltest.specs.Pieces.{in_piece, IsPiece, Misses, closed};
 
 use crate::spans::{across, piece, up};
 use sg_shape::{Bounds, CellBox, Judge, Matrix, Path, Rings, Shape, Spot};
 use std::alloc::{AllocError, Global};
 
-/// What is sought in a piece.
-#[derive(Clone, Copy)]
-pub(crate) enum Sought {
-    /// A point of the shape.
-    Held,
-    /// A point that isn't one of the shape.
-    Missing,
-}
-
-/// Whether some point of the piece is sought.
-pub(crate) fn finds_inside<J: Judge>(
+/// Whether some point of the piece is none of the shape.
+pub(crate) fn misses_inside<J: Judge>(
     judge: &J,
     alloc: Global,
     shape: &Shape,
     piece: Bounds,
-    sought: Sought,
 ) -> Result<bool, AllocError>
     requires sound { IsSound shape.now }
     requires piece { IsPiece piece }
-    ensures { IfOk result (λ found. IsTrue found ↔ Finds sought shape.now (in_piece piece)) }
+    ensures { IfOk result (λ missed. IsTrue missed ↔ Misses shape.now (in_piece piece)) }
 {
     let solid = as_shape(alloc, piece)?;
     let matrix = judge.relate(alloc, &solid, shape)?;
-    Ok(is_found(matrix, sought))
+    Ok(matrix.io)
 }
 
-/// Whether some point of the cell with all its edges is sought.
-pub(crate) fn finds_closed<J: Judge>(
+/// What a shape misses of a cell with all its edges.
+#[derive(Clone, Copy)]
+pub(crate) struct Missed {
+    /// Some point within the four sides.
+    pub inside: bool,
+    /// Some point within them or on them.
+    pub anywhere: bool,
+}
+
+/// What the shape misses of the cell with all its edges.
+pub(crate) fn missed_closed<J: Judge>(
     judge: &J,
     alloc: Global,
     shape: &Shape,
     cell: &CellBox,
-    sought: Sought,
-) -> Result<bool, AllocError>
+) -> Result<Missed, AllocError>
     requires sound { IsSound shape.now }
     requires sides { IsCellBox cell.now }
-    ensures { IfOk result (λ found. IsTrue found ↔ Finds sought shape.now (in_box (closed cell.now))) }
+    ensures inside { IfOk result (λ missed. IsTrue missed.inside → Misses shape.now (in_box cell.now)) }
+    ensures anywhere { IfOk result (λ missed. IsTrue missed.anywhere ↔ Misses shape.now (in_box (closed cell.now))) }
 {
     let solid = as_shape(alloc, piece(across(cell), up(cell)))?;
     let matrix = judge.relate(alloc, &solid, shape)?;
-    Ok(may_find(matrix, sought))
+    Ok(Missed {
+        inside: matrix.io,
+        anywhere: leaves_second(matrix),
+    })
 }
 
-/// Whether some point inside the first shape or on its boundary is sought in the second.
-fn may_find(matrix: Matrix, sought: Sought) -> bool
-    ensures { result ≡ may_find matrix sought }
+/// Whether some point of the first shape is none of the second.
+fn leaves_second(matrix: Matrix) -> bool
+    ensures { result ≡ (matrix.io || matrix.bo) }
 {
-    match sought {
-        Sought::Held => (matrix.ii || matrix.ib) || (matrix.bi || matrix.bb),
-        Sought::Missing => matrix.io || matrix.bo,
-    }
-}
-
-/// Whether some point inside the first shape is sought in the second.
-fn is_found(matrix: Matrix, sought: Sought) -> bool
-    ensures { result ≡ is_found matrix sought }
-{
-    match sought {
-        Sought::Held => matrix.ii || matrix.ib,
-        Sought::Missing => matrix.io,
-    }
+    matrix.io || matrix.bo
 }
 
 /// The shape whose inside is the piece.

@@ -42,6 +42,16 @@ split_at [] c h = absurd (omega arith)
 split_at (k ∷ ks) [] h = refl
 split_at (k ∷ ks) (d ∷ ds) h = split_at ks ds (omega arith)
 
+pub side_is : (ks : List ℕ) (c : Cell) (level n : ℕ) → length ks ≡ 4 → length c ≤ 3 → level ≡ length c → n ≡ slice_index ks (level + 1 - 1) → n ≡ split_of ks c
+side_is ks c level n m h l e =
+    let i : level + 1 - 1 ≡ length c = omega arith in
+    e ∙ (ap (λ i. slice_index ks i) i ∙ sym (split_at ks c (omega arith)))
+
+pub columns_are : (ks : List ℕ) (c : Cell) (level side : ℕ) → length ks ≡ 4 → length c ≤ 3 → level ≡ length c → side ≡ two_to (slice_index ks (level + 1 - 1)) → side ≡ two_to (split_of ks c)
+columns_are ks c level side n h l e =
+    let i : level + 1 - 1 ≡ length c = omega arith in
+    e ∙ (ap (λ i. two_to (slice_index ks i)) i ∙ ap two_to (sym (split_at ks c (omega arith))))
+
 pub places_are : (ks : List ℕ) (c : Cell) (level side : ℕ) → length ks ≡ 4 → length c ≤ 3 → level ≡ length c → side ≡ two_to (slice_index ks (level + 1 - 1)) → side * side ≡ four_to (split_of ks c)
 places_are ks c level side n h l e =
     let i : level + 1 - 1 ≡ length c = omega arith in

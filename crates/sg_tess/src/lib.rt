@@ -8,8 +8,10 @@
 #![tactic(auto)]
 
 mod lists;
+mod reaches;
 mod rounds;
 mod sights;
+mod sizes;
 mod tessellations;
 
 pub use tessellations::tessellate;

@@ -1,13 +1,18 @@
-ghost use Rattle.std.specs.Prelude.{◌≡◌, ◌&&◌, ◌≤◌, ◌<◌, ◌++◌, ◌∷◌, [], length, IfOk, MatchOption};
+ghost use Rattle.std.specs.Prelude.{◌≡◌, ◌&&◌, ◌≤◌, ◌<◌, ◌*◌, ◌++◌, ◌∷◌, [], length, IfOk, MatchOption};
 ghost use Rattle.sg_shape.specs.Boxes.{IsCellBox};
-ghost use Rattle.sg_hilbert.specs.Curve.{four_to};
-ghost use Rattle.sg_cells.specs.Cells.{IsPath, box_of, split_of};
+ghost use Rattle.sg_shape.specs.Sound.{IsSound};
+ghost use Rattle.sg_nearby.specs.Nearby.{SameIn};
+ghost use Rattle.sg_hilbert.specs.Curve.{IsSide, doublings, four_to, two_to};
+ghost use Rattle.sg_cells.specs.Cells.{IsGrid, IsPath, box_of, split_of};
 ghost use Rattle.sg_cells.specs.Grids.{CanSplit};
 ghost use Rattle.sg_cells.specs.Tess.{look_at, kids};
 ghost use Rattle.sg_plane.specs.Decisions.{meets_box, covers_box};
-ghost use Rattle.sg_tess.specs.Sights.{IsSight, mark_by, overlaps, is_near};
+ghost use Rattle.sg_tess.specs.Sights.{IsReach, IsSight, mark_by, overlaps, is_near};
 
+use crate::reaches::Reach;
+use crate::sizes::has_many;
 use sg_cells::{Cell, Grid, Mark};
+use sg_nearby::nearby;
 use sg_shape::{Bounds, CellBox, CellJudge, Shape};
 use std::alloc::{AllocError, Global};
 
@@ -73,7 +78,7 @@ impl<'a, C: CellJudge> Sight<'a, C> {
     }
 
     /// The children that the shape meets, if there are at most `room`; of cell 0, which stands for the whole box,
-    /// the cells of level 1.
+    /// the cells of level 1. Of many spots only those are looked at that matter near the parent.
     pub fn kids_within(
         &self,
         alloc: Global,
@@ -85,10 +90,74 @@ impl<'a, C: CellJudge> Sight<'a, C> {
         requires level { length parent ≤ 3 }
         ensures { IfOk result (λ list. MatchOption list (room < length (kids self.now.grid.now (look_at self.now.shape.now) parent)) (λ entries. (entries.items ≡ kids self.now.grid.now (look_at self.now.shape.now) parent) × (length entries.items ≤ room))) }
     {
+        match self.grid.box_of(parent) {
+            Some(found) if has_many(self.shape) => self.kids_near(alloc, parent, room, &found),
+            _ => self.kids_among(alloc, parent, room),
+        }
+    }
+
+    /// The same by the shape as it is near the parent, which has this box.
+    fn kids_near(
+        &self,
+        alloc: Global,
+        parent: Cell,
+        room: usize,
+        found: &CellBox,
+    ) -> Result<Option<Vec<(Cell, Mark)>>, AllocError>
+        requires sight { IsSight self.now.grid.now self.now.shape.now self.now.bounds }
+        requires path { IsPath self.now.grid.now.sides parent }
+        requires level { length parent ≤ 3 }
+        requires found { found.now ≡ box_of self.now.grid.now parent }
+        ensures { IfOk result (λ list. MatchOption list (room < length (kids self.now.grid.now (look_at self.now.shape.now) parent)) (λ entries. (entries.items ≡ kids self.now.grid.now (look_at self.now.shape.now) parent) × (length entries.items ≤ room))) }
+    {
+        let near = nearby(alloc, self.shape, found)?;
+        self.kids_by(alloc, parent, room, &near)
+    }
+
+    /// The same by another shape that has the same points in the parent.
+    fn kids_by(
+        &self,
+        alloc: Global,
+        parent: Cell,
+        room: usize,
+        near: &Shape,
+    ) -> Result<Option<Vec<(Cell, Mark)>>, AllocError>
+        requires sight { IsSight self.now.grid.now self.now.shape.now self.now.bounds }
+        requires path { IsPath self.now.grid.now.sides parent }
+        requires level { length parent ≤ 3 }
+        requires sound { IsSound near.now }
+        requires same { SameIn (box_of self.now.grid.now parent) near.now self.now.shape.now }
+        ensures { IfOk result (λ list. MatchOption list (room < length (kids self.now.grid.now (look_at self.now.shape.now) parent)) (λ entries. (entries.items ≡ kids self.now.grid.now (look_at self.now.shape.now) parent) × (length entries.items ≤ room))) }
+    {
+        match near.bounds() {
+            None => self.kids_among(alloc, parent, room),
+            Some(bounds) => Sight {
+                judge: self.judge,
+                grid: self.grid,
+                shape: near,
+                bounds,
+            }
+            .kids_among(alloc, parent, room),
+        }
+    }
+
+    /// The same by the whole shape.
+    fn kids_among(
+        &self,
+        alloc: Global,
+        parent: Cell,
+        room: usize,
+    ) -> Result<Option<Vec<(Cell, Mark)>>, AllocError>
+        requires sight { IsSight self.now.grid.now self.now.shape.now self.now.bounds }
+        requires path { IsPath self.now.grid.now.sides parent }
+        requires level { length parent ≤ 3 }
+        ensures { IfOk result (λ list. MatchOption list (room < length (kids self.now.grid.now (look_at self.now.shape.now) parent)) (λ entries. (entries.items ≡ kids self.now.grid.now (look_at self.now.shape.now) parent) × (length entries.items ≤ room))) }
+    {
+        let reach = self.reach(parent);
         let mut entries = Vec::new(alloc);
         for place in 0..places_in(self.grid, parent) {
             let cell = child_of(self.grid, parent, place);
-            if let Some(mark) = self.mark_of(alloc, cell)? {
+            if let Some(mark) = self.mark_at(alloc, parent, place, &reach)? {
                 if entries.len() == room {
                     return Ok(None);
                 }
@@ -97,21 +166,59 @@ impl<'a, C: CellJudge> Sight<'a, C> {
         }
         Ok(Some(entries))
     }
+
+    /// The mark of the child at a place, where the shape meets it. Only a child within reach is looked at.
+    fn mark_at(
+        &self,
+        alloc: Global,
+        parent: Cell,
+        place: u16,
+        reach: &Reach,
+    ) -> Result<Option<Mark>, AllocError>
+        requires sight { IsSight self.now.grid.now self.now.shape.now self.now.bounds }
+        requires path { IsPath self.now.grid.now.sides parent }
+        requires level { length parent ≤ 3 }
+        requires place { place < four_to (split_of self.now.grid.now.sides parent) }
+        requires most { place < 256 }
+        requires reach { IsReach self.now.grid.now parent self.now.bounds reach.now }
+        ensures { IfOk result (λ mark. mark ≡ mark_by (look_at self.now.shape.now) (box_of self.now.grid.now (parent ++ place ∷ []))) }
+    {
+        if reach.has(side_under(self.grid, parent), place as u8) {
+            self.mark_of(alloc, child_of(self.grid, parent, place))
+        } else {
+            Ok(None)
+        }
+    }
 }
 
 /// How many children a cell has; cell 0 stands for the whole box.
 pub(crate) fn places_in(grid: &Grid, parent: Cell) -> u16
+    requires grid { IsGrid grid.now }
     requires path { IsPath grid.now.sides parent }
     requires level { length parent ≤ 3 }
     ensures places { result ≡ four_to (split_of grid.now.sides parent) }
     ensures most { result ≤ 256 }
 {
-    let side = grid.side(parent.level() + 1) as u16;
+    let side = u16::from(side_under(grid, parent));
     side * side
 }
 
+/// How many columns and rows of children a cell has; cell 0 stands for the whole box.
+pub(crate) fn side_under(grid: &Grid, parent: Cell) -> u8
+    requires grid { IsGrid grid.now }
+    requires path { IsPath grid.now.sides parent }
+    requires level { length parent ≤ 3 }
+    ensures side { IsSide result }
+    ensures doublings { doublings result ≡ split_of grid.now.sides parent }
+    ensures columns { result ≡ two_to (split_of grid.now.sides parent) }
+    ensures places { result * result ≡ four_to (split_of grid.now.sides parent) }
+    ensures most { result ≤ 16 }
+{
+    grid.side(parent.level() + 1)
+}
+
 /// The child at a place of a cell; cell 0 stands for the whole box.
-fn child_of(grid: &Grid, parent: Cell, place: u16) -> Cell
+pub(crate) fn child_of(grid: &Grid, parent: Cell, place: u16) -> Cell
     requires path { IsPath grid.now.sides parent }
     requires level { length parent ≤ 3 }
     requires place { place < four_to (split_of grid.now.sides parent) }
@@ -134,7 +241,7 @@ fn is_near(found: &CellBox, bounds: &Bounds) -> bool
 }
 
 /// Whether some x lies in both.
-fn is_near_across(found: &CellBox, bounds: &Bounds) -> bool
+pub(crate) fn is_near_across(found: &CellBox, bounds: &Bounds) -> bool
     ensures { result ≡ overlaps found.now.xlow found.now.xhigh found.now.closed_x bounds.now.xmin bounds.now.xmax }
 {
     found.xlow <= bounds.xmax
@@ -142,7 +249,7 @@ fn is_near_across(found: &CellBox, bounds: &Bounds) -> bool
 }
 
 /// Whether some y lies in both.
-fn is_near_up(found: &CellBox, bounds: &Bounds) -> bool
+pub(crate) fn is_near_up(found: &CellBox, bounds: &Bounds) -> bool
     ensures { result ≡ overlaps found.now.ylow found.now.yhigh found.now.closed_y bounds.now.ymin bounds.now.ymax }
 {
     found.ylow <= bounds.ymax

@@ -1,0 +1,5 @@
+pub mod Points
+mod Beside
+mod Shorter
+mod Thinning
+mod Rings
