@@ -69,6 +69,18 @@ def comb(count, upright):
     return spots if upright else [(y + 3, x + 5) for x, y in spots]
 
 
+def tilted(count, upright):
+    """A comb whose long edges lean, each by another little, so that each crossing has a height of its own."""
+    length = 5000 * (count // 2)
+    spots = []
+    for k in range(count // 2):
+        ends = [(5000 * k + 1, -1 - k), (5000 * k + 38 + k, length + 3 * k)]
+        if k % 2:
+            ends.reverse()
+        spots += ends
+    return spots if upright else [(y + 3, x + 5) for x, y in spots]
+
+
 def zigzag(count, shift):
     """A line that goes up and down."""
     return [(7000 * k + shift, 12_000_000 * (k % 2) - 6_000_000 + 11 * k) for k in range(count)]
@@ -119,6 +131,34 @@ def growth(program, name, pair, sizes=SIZES, times=5):
         print(f"{'':44} growth as n^{math.log(took[-1] / took[0]) / math.log(sizes[-1] / sizes[0]):.2f}")
 
 
+def box(x, y, side):
+    return closed([(x, y), (x + side, y), (x + side, y + side), (x, y + side)])
+
+
+def small(program):
+    """A point and a small box against a polygon of many spots: inside, on its border and beside it."""
+    large = polygon(star(2047, (0, 0), 6_000_000, 9_000_000))
+    for name, query in (
+        ("a point inside", "POINT (1000000 1000001)"),
+        ("a point at a spot", "POINT (9000000 0)"),
+        ("a point beside it", "POINT (6500000 6500000)"),
+        ("a box inside", polygon(box(1_000_000, 1_000_000, 2000))),
+        ("a box over the border", polygon(box(7_000_000, 1_000_000, 2_000_000))),
+    ):
+        for test in ("intersects", "contains", "touches"):
+            show(program, f"{name}, {test}", large, query, test, 20)
+
+
+def settled(program):
+    """Each relation of pairs that settle it early or late."""
+    centre = (0, 0)
+    stars = polygon(star(2047, centre, 3_000_000, 9_000_000)), polygon(star(2047, (4_000_000, 1_000_000), 3_000_000, 9_000_000, 0.5))
+    nested = polygon(star(2047, centre, 6_000_000, 9_000_000)), polygon(star(2047, centre, 1_000_000, 2_000_000, 0.5))
+    for name, (a, b) in (("overlapping stars", stars), ("a star in a star", nested)):
+        for test in ("intersects", "contains", "within", "equals", "touches"):
+            show(program, f"{name}, {test}", a, b, test)
+
+
 def relations(program):
     centre = (0, 0)
     growth(program, "overlapping stars",
@@ -128,6 +168,7 @@ def relations(program):
     growth(program, "a jagged border in common", lambda n: (polygon(border(n, "left")), polygon(border(n, "right"))))
     growth(program, "zigzag lines", lambda n: (line(zigzag(n, 0)), line(zigzag(n, 3333))), SIZES[:4], 2)
     show(program, "two combs, about a million crossings", line(comb(2048, True)), line(comb(2048, False)), times=1)
+    growth(program, "two tilted combs", lambda n: (line(tilted(n, True)), line(tilted(n, False))), SIZES[:4], 1)
     far = polygon(star(2047, (-9_000_000, 0), 100_000, 200_000))
     near = polygon(star(2047, (9_000_000, 0), 100_000, 200_000))
     show(program, "shapes that lie apart", far, near, times=5)
@@ -150,6 +191,10 @@ def distances(program):
 
 def main():
     relations(sys.argv[1])
+    print()
+    settled(sys.argv[1])
+    print()
+    small(sys.argv[1])
     print()
     distances(sys.argv[1])
 

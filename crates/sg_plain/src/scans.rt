@@ -69,10 +69,7 @@ fn is_sat<J: Judge>(
     ensures { IfOk result (λ yes. IsTrue yes ↔ Sat test row.now shape.now) }
 {
     match test {
-        Test::Relate(pred) => {
-            let matrix = judge.relate(alloc, row, shape)?;
-            Ok(matrix.satisfies(pred))
-        }
+        Test::Relate(pred) => judge.satisfies(alloc, row, shape, pred),
         Test::Near { bound, strict } => Ok(judge.near(row, shape, bound, strict)),
     }
 }

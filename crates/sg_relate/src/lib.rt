@@ -1,7 +1,11 @@
-//! The judge of shapes: their matrix by a plane sweep, and their nearness by distances of edges.
+//! The judge of shapes: their matrix by a plane sweep, one relation by as much of the sweep as decides it, and their
+//! nearness by distances of edges.
 #![tactic(auto)]
 
-use sg_shape::{Judge, Matrix, Shape};
+mod heights;
+mod relations;
+
+use sg_shape::{Judge, Matrix, Pred, Shape};
 use std::alloc::{AllocError, Global};
 
 /// Judges two shapes exactly, over all points of the plane.
@@ -11,6 +15,16 @@ pub struct Relate;
 impl Judge for Relate {
     fn relate(&self, alloc: Global, a: &Shape, b: &Shape) -> Result<Matrix, AllocError> {
         sg_sweep::statuses(alloc, a, b)
+    }
+
+    fn satisfies(
+        &self,
+        alloc: Global,
+        a: &Shape,
+        b: &Shape,
+        pred: Pred,
+    ) -> Result<bool, AllocError> {
+        relations::relates(alloc, a, b, pred)
     }
 
     fn near(&self, a: &Shape, b: &Shape, d: u32, strict: bool) -> bool {

@@ -1,10 +1,10 @@
 -- The edges at hand, from one height to the next.
-use Rattle.std.proofs.Common.{ℕ, zero, suc, ◌≡◌, ◌+◌, ◌<◌, ◌≤◌, arith, refl, sym, ap, ◌∙◌, subst, Bool, true, false, cond, List, [], ◌∷◌, ◌++◌, length, get_or, take, drop, add-one, drop-cons, length-drop, ◌-◌, append_assoc, Option, Some, None}
+use Rattle.std.proofs.Common.{ℕ, zero, suc, ◌≡◌, ◌+◌, ◌<◌, ◌≤◌, arith, refl, sym, ap, ◌∙◌, subst, Bool, true, false, cond, List, [], ◌∷◌, ◌++◌, length, get_or, take, drop, length-drop, ◌-◌, Option, Some, None}
 use Rattle.std.specs.Prelude.{MatchOption}
 use mathlib.Core.Logic.{◌⊎◌, inl, inr}
 use lib.IntN.{ℤ, pos, ◌*ℤ◌}
 use lib.Signed.{◌<ℤ◌, ◌≤ℤ◌, lt_z, le_z}
-use Rattle.sg_segment.proofs.Ring.{sums, products, nonneg_diff-mul, lt-mul_right, lt-cancel_right}
+use Rattle.sg_segment.proofs.Ring.{sums, nonneg_diff-mul}
 use Rattle.sg_segment.proofs.Comparisons.{lt-from_true, le-from_false, true-from_lt, le-from_true, lt-from_false}
 use Rattle.sg_segment.specs.Passes.{upward}
 use Rattle.sg_segment.specs.declared.figures.Pass.{Pass}
@@ -14,7 +14,9 @@ use Rattle.sg_heights.specs.Stops.{total, ind}
 use Rattle.sg_sweep.specs.declared.pieces.Piece.{Piece}
 use Rattle.sg_sweep.specs.Pieces.{Tag, tags}
 use Rattle.sg_sweep.specs.Rungs.{Each, Exists, ends, NoneAbove, IsNextSpot, lower_of, nearer, lines, crosses_above, rungs_left}
-use Rattle.sg_sweep.specs.Fronts.{low_of, high_of, IsRising, kept, ended, Stands}
+use Rattle.sg_sweep.specs.Fronts.{low_of, high_of, IsRising}
+use Rattle.sg_sweep.specs.declared.strand.Strand.{Strand}
+use Rattle.sg_sweep.specs.Strands.{strand_tags}
 
 -- ---- lists
 pub each-map : {X : Type 0} (P Q : X → Type 0) (xs : List X) → ((x : X) → P x → Q x) → Each P xs → Each Q xs
@@ -25,7 +27,7 @@ pub ends-append : (gs hs : List Tag) → ends (gs ++ hs) ≡ ends gs ++ ends hs
 ends-append [] hs = refl
 ends-append (g ∷ gs) hs = ap (λ (zs : List ℤ). g.edge.from.y ∷ g.edge.to.y ∷ zs) (ends-append gs hs)
 
-each-both : (P : ℤ → Type 0) (gs hs : List Tag) → Each P (ends gs) → Each P (ends hs) → Each P (ends (gs ++ hs))
+pub each-both : (P : ℤ → Type 0) (gs hs : List Tag) → Each P (ends gs) → Each P (ends hs) → Each P (ends (gs ++ hs))
 each-both P [] hs h k = k
 each-both P (g ∷ gs) hs h k = (h.0, (h.1.0, each-both P gs hs h.1.1 k))
 
@@ -37,7 +39,7 @@ pub each-right : (P : ℤ → Type 0) (gs hs : List Tag) → Each P (ends (gs ++
 each-right P [] hs h = h
 each-right P (g ∷ gs) hs h = each-right P gs hs h.1.1
 
-exists-first : (P : ℤ → Type 0) (gs hs : List Tag) → Exists P (ends gs) → Exists P (ends (gs ++ hs))
+pub exists-first : (P : ℤ → Type 0) (gs hs : List Tag) → Exists P (ends gs) → Exists P (ends (gs ++ hs))
 exists-first P [] hs h = absurd h
 exists-first P (g ∷ gs) hs (inl h) = inl h
 exists-first P (g ∷ gs) hs (inr (inl h)) = inr (inl h)
@@ -69,7 +71,7 @@ ends_of g false e = let h : g.edge.to.y ≤ℤ g.edge.from.y = le-from_false g.e
 pub low_high : (g : Tag) → ((low_of g ≤ℤ g.edge.from.y) × (low_of g ≤ℤ g.edge.to.y)) × ((g.edge.from.y ≤ℤ high_of g) × (g.edge.to.y ≤ℤ high_of g))
 low_high g = ends_of g (lt_z g.edge.from.y g.edge.to.y) refl
 
-low_end : (g : Tag) → (g.edge.from.y ≡ low_of g) ⊎ (g.edge.to.y ≡ low_of g)
+pub low_end : (g : Tag) → (g.edge.from.y ≡ low_of g) ⊎ (g.edge.to.y ≡ low_of g)
 low_end g = by_test (lt_z g.edge.from.y g.edge.to.y)
   where
     by_test : (b : Bool) → (g.edge.from.y ≡ (cond b g.edge (record { from = g.edge.to; to = g.edge.from })).from.y) ⊎ (g.edge.to.y ≡ (cond b g.edge (record { from = g.edge.to; to = g.edge.from })).from.y)
@@ -145,54 +147,6 @@ front-next act g gs t d least r h m = rw (true-from_lt t (low_of g *ℤ d) h) (b
     by_least None k = first_wins (low_of g) (each-map (λ z. (z *ℤ d) ≤ℤ t) (λ z. ((z *ℤ d) ≤ℤ t) ⊎ (low_of g ≤ℤ z)) (ends act) (λ z l. inl l) k)
     by_least (Some y) k = by_order y (le_z y (low_of g)) refl k
 
--- ---- one height further
-kept-sums : (t d : ℤ) (f : Tag → ℕ) (gs : List Tag) → total f gs ≡ total f (ended t d gs) + total f (kept t d gs)
-kept-sums t d f [] = omega arith
-kept-sums t d f (g ∷ gs) = by_test (lt_z (high_of g *ℤ d) t) (kept-sums t d f gs)
-  where
-    by_test : (b : Bool) → total f gs ≡ total f (ended t d gs) + total f (kept t d gs) →
-        f g + total f gs ≡ total f (cond b (g ∷ ended t d gs) (ended t d gs)) + total f (cond b (kept t d gs) (g ∷ kept t d gs))
-    by_test true e = omega (arith, e)
-    by_test false e = omega (arith, e)
-
-ended-below : (t d : ℤ) → pos 0 <ℤ d → (gs : List Tag) → Each (λ z. (z *ℤ d) <ℤ t) (ends (ended t d gs))
-ended-below t d pd [] = tt
-ended-below t d pd (g ∷ gs) = by_test (lt_z (high_of g *ℤ d) t) refl (ended-below t d pd gs)
-  where
-    below : (z : ℤ) → z ≤ℤ high_of g → (high_of g *ℤ d) <ℤ t → (z *ℤ d) <ℤ t
-    below z h k = let a : (z *ℤ d) ≤ℤ (high_of g *ℤ d) = nonneg_diff-mul z (high_of g) d (omega (arith, sums)) h in omega (arith, sums)
-
-    by_test : (b : Bool) → lt_z (high_of g *ℤ d) t ≡ b → Each (λ z. (z *ℤ d) <ℤ t) (ends (ended t d gs)) → Each (λ z. (z *ℤ d) <ℤ t) (ends (cond b (g ∷ ended t d gs) (ended t d gs)))
-    by_test true e k =
-        let h : (high_of g *ℤ d) <ℤ t = lt-from_true (high_of g *ℤ d) t e in
-        let l = low_high g in
-        (below g.edge.from.y l.1.0 h, (below g.edge.to.y l.1.1 h, k))
-    by_test false e k = k
-
-still_below : (z t d t2 d2 : ℤ) → pos 0 <ℤ d → pos 0 <ℤ d2 → (t *ℤ d2) <ℤ (t2 *ℤ d) → (z *ℤ d) <ℤ t → (z *ℤ d2) <ℤ t2
-still_below z t d t2 d2 pd p2 o h =
-    let a : ((z *ℤ d) *ℤ d2) <ℤ (t *ℤ d2) = lt-mul_right (z *ℤ d) t d2 p2 h in
-    let e : (z *ℤ d) *ℤ d2 ≡ (z *ℤ d2) *ℤ d = simp products in
-    lt-cancel_right (z *ℤ d2) t2 d pd (omega (arith, sums))
-
-pub stands-next : (all act wait taken rest : List Tag) (t d t2 d2 : ℤ) → pos 0 <ℤ d → pos 0 <ℤ d2 → (t *ℤ d2) <ℤ (t2 *ℤ d) → Stands all act wait t d → wait ≡ taken ++ rest → Each (λ z. t2 <ℤ (z *ℤ d2)) (ends rest) →
-    Stands all (kept t2 d2 act ++ taken) rest t2 d2
-stands-next all act wait taken rest t d t2 d2 pd p2 o s e a = record {
-  gone = s.gone ++ ended t2 d2 act;
-  same = λ f.
-      let u = s.same f in
-      let v = kept-sums t2 d2 f act in
-      let w : total f wait ≡ total f taken + total f rest = ap (total f) e ∙ total-append f taken rest in
-      let x = total-append f s.gone (ended t2 d2 act) in
-      let y = total-append f (kept t2 d2 act) taken in
-      omega (arith, u, v, w, x, y);
-  below =
-      each-both (λ z. (z *ℤ d2) <ℤ t2) s.gone (ended t2 d2 act)
-      (each-map (λ z. (z *ℤ d) <ℤ t) (λ z. (z *ℤ d2) <ℤ t2) (ends s.gone) (λ z h. still_below z t d t2 d2 pd p2 o h) s.below)
-      (ended-below t2 d2 p2 act);
-  above = a;
-}
-
 -- ---- fewer edges have no more heights
 abbrev Fewer : List Tag → List Tag → Type 0
 Fewer hs gs = (f : Tag → ℕ) → total f hs ≤ total f gs
@@ -227,31 +181,7 @@ rungs-fewer hs gs t d h =
     total-le (λ l. total (λ m. ind (crosses_above t d l m)) (lines gs)) (λ l. total (λ m. ind (crosses_above t d l m)) (lines hs)) (lines gs) (λ l. lines-fewer hs gs h (λ m. ind (crosses_above t d l m))) in
     omega (arith, a, b, c, u, v)
 
-pub front-fewer : (act wait taken rest : List Tag) (t d : ℤ) → wait ≡ taken ++ rest → (f : Tag → ℕ) → total f ((kept t d act ++ taken) ++ rest) ≤ total f (act ++ wait)
-front-fewer act wait taken rest t d e f =
-    let v = kept-sums t d f act in
-    let w : total f wait ≡ total f taken + total f rest = ap (total f) e ∙ total-append f taken rest in
-    let x = total-append f (kept t d act ++ taken) rest in
-    let y = total-append f (kept t d act) taken in
-    let z = total-append f act wait in
-    omega (arith, v, w, x, y, z)
-
--- ---- the code's list, one piece more
-pub kept-more : (old new : List Piece) (ps : List Piece) (i : ℕ) (p : Piece) (t d : ℤ) (b : Bool) → i < length ps → p ≡ get_or ps i p → b ≡ lt_z (high_of (record { edge = p.edge; layer = p.layer }) *ℤ d) t →
-    new ≡ cond b old (old ++ p ∷ []) → tags new ++ kept t d (tags (drop (i + 1) ps)) ≡ tags old ++ kept t d (tags (drop i ps))
-kept-more old new ps i p t d b h e g q =
-    rw (q, add-one, drop-cons ps i p)
-    (by_test b g ∙ ap (λ (x : Piece). tags old ++ kept t d (record { edge = x.edge; layer = x.layer } ∷ tags (drop (suc i) ps))) e)
-  where
-    by_test : (b : Bool) → b ≡ lt_z (high_of (record { edge = p.edge; layer = p.layer }) *ℤ d) t →
-        tags (cond b old (old ++ p ∷ [])) ++ kept t d (tags (drop (suc i) ps)) ≡ tags old ++ kept t d (record { edge = p.edge; layer = p.layer } ∷ tags (drop (suc i) ps))
-    by_test true f = rw (sym f) refl
-    by_test false f = rw (sym f) (ap (λ (gs : List Tag). gs ++ kept t d (tags (drop (suc i) ps))) (tags-append old (p ∷ [])) ∙ append_assoc (tags old) (tags (p ∷ [])) (kept t d (tags (drop (suc i) ps))))
-
 -- ---- what the code has
-pub front-tags : (old new begun : List Piece) (gs : List Tag) → new ≡ old ++ begun → tags old ≡ gs → tags new ≡ gs ++ tags begun
-front-tags old new begun gs e g = ap tags e ∙ tags-append old begun ∙ ap (λ (hs : List Tag). hs ++ tags begun) g
-
 pub next-of : (act : List Tag) (ws : List Piece) (p : Piece) (t d : ℤ) (least : Option ℤ) → 1 ≤ length ws → p ≡ get_or ws 0 p → IsRising (tags ws) → Each (λ z. t <ℤ (z *ℤ d)) (ends (tags ws)) →
     MatchOption least (NoneAbove act t d) (λ y. IsNextSpot act t d y) →
     MatchOption (nearer t d least (upward p.edge).from.y) (NoneAbove (act ++ tags ws) t d) (λ y. IsNextSpot (act ++ tags ws) t d y)
@@ -268,7 +198,7 @@ drop_nil : (n : ℕ) → drop {A = Piece} n [] ≡ []
 drop_nil zero = refl
 drop_nil (suc n) = refl
 
-drop_drop : (n i : ℕ) (ps : List Piece) → drop n (drop i ps) ≡ drop (i + n) ps
+pub drop_drop : (n i : ℕ) (ps : List Piece) → drop n (drop i ps) ≡ drop (i + n) ps
 drop_drop n zero ps = ap (λ (k : ℕ). drop k ps) (omega arith)
 drop_drop n (suc i) [] = drop_nil n ∙ sym (drop_nil (suc i + n))
 drop_drop n (suc i) (p ∷ ps) = drop_drop n i ps ∙ (let e : suc i + n ≡ suc (i + n) = omega arith in ap (λ (k : ℕ). drop k (p ∷ ps)) (sym e))
@@ -278,42 +208,13 @@ pub waiting-split : (ps waiting taken : List Piece) (b n : ℕ) → waiting ≡ 
 waiting-split ps waiting taken b n e g =
     tags-split n (drop b ps) ∙ rw (drop_drop n b ps, g, e) refl
 
-pub front-stands : (ps act front waiting taken : List Piece) (b n : ℕ) (t d t2 d2 : ℤ) → pos 0 <ℤ d → pos 0 <ℤ d2 → (t *ℤ d2) <ℤ (t2 *ℤ d) → IsRising (tags ps) →
-    Stands (tags ps) (tags act) (tags (drop b ps)) t d → waiting ≡ drop b ps → taken ≡ take n waiting →
-    ((q : Piece) → n < length waiting → t2 <ℤ ((upward (get_or waiting n q).edge).from.y *ℤ d2)) → tags front ≡ kept t2 d2 (tags act) ++ tags taken →
-    Stands (tags ps) (tags front) (tags (drop (b + n) ps)) t2 d2
-front-stands ps act front waiting taken b n t d t2 d2 pd p2 o r s e g f k =
-    subst (λ (gs : List Tag). Stands (tags ps) gs (tags (drop (b + n) ps)) t2 d2) (sym k)
-    (stands-next (tags ps) (tags act) (tags (drop b ps)) (tags taken) (tags (drop (b + n) ps)) t d t2 d2 pd p2 o s (waiting-split ps waiting taken b n e g)
-    (subst (λ (xs : List Piece). Each (λ z. t2 <ℤ (z *ℤ d2)) (ends (tags xs))) (ap (drop n) e ∙ drop_drop n b ps)
-    (behind-above n waiting t2 d2 p2 (subst (λ (xs : List Piece). IsRising (tags xs)) (sym e) (rising-drop b ps r)) f)))
+pub next-same : (act1 act : List Strand) (w1 w : List Piece) (y top t d : ℤ) → act1 ≡ act → w1 ≡ w → top ≡ y → IsNextSpot (strand_tags act1 ++ tags w1) t d y → IsNextSpot (strand_tags act ++ tags w) t d top
+next-same act1 act w1 w y top t d e g h q =
+    subst (λ (z : ℤ). IsNextSpot (strand_tags act ++ tags w) t d z) (sym h)
+    (subst (λ (xs : List Strand). IsNextSpot (strand_tags xs ++ tags w) t d y) e (subst (λ (xs : List Piece). IsNextSpot (strand_tags act1 ++ tags xs) t d y) g q))
 
-pub front-less : (ps act front waiting taken : List Piece) (b n : ℕ) (t d t2 d2 : ℤ) → waiting ≡ drop b ps → taken ≡ take n waiting → tags front ≡ kept t2 d2 (tags act) ++ tags taken →
-    rungs_left (tags act ++ tags (drop b ps)) t2 d2 < rungs_left (tags act ++ tags (drop b ps)) t d →
-    rungs_left (tags front ++ tags (drop (b + n) ps)) t2 d2 < rungs_left (tags act ++ tags (drop b ps)) t d
-front-less ps act front waiting taken b n t d t2 d2 e g k h =
-    let u = rungs-fewer ((kept t2 d2 (tags act) ++ tags taken) ++ tags (drop (b + n) ps)) (tags act ++ tags (drop b ps)) t2 d2
-    (front-fewer (tags act) (tags (drop b ps)) (tags taken) (tags (drop (b + n) ps)) t2 d2 (waiting-split ps waiting taken b n e g)) in
-    let v : rungs_left (tags front ++ tags (drop (b + n) ps)) t2 d2 ≡ rungs_left ((kept t2 d2 (tags act) ++ tags taken) ++ tags (drop (b + n) ps)) t2 d2 =
-    ap (λ (gs : List Tag). rungs_left (gs ++ tags (drop (b + n) ps)) t2 d2) k in
-    omega (arith, u, v, h)
-
-pub next-same : (act1 act2 act w1 w : List Piece) (y top t d : ℤ) → act1 ≡ act → act2 ≡ act → w1 ≡ w → top ≡ y → IsNextSpot (tags act1 ++ tags w1) t d y → IsNextSpot (tags act2 ++ tags w) t d top
-next-same act1 act2 act w1 w y top t d e f g h q =
-    subst (λ (z : ℤ). IsNextSpot (tags act2 ++ tags w) t d z) (sym h)
-    (subst (λ (xs : List Piece). IsNextSpot (tags xs ++ tags w) t d y) (e ∙ sym f) (subst (λ (xs : List Piece). IsNextSpot (tags act1 ++ tags xs) t d y) g q))
-
-pub stands-same : (all : List Tag) (act1 act : List Piece) (wait : List Tag) (t d : ℤ) → act1 ≡ act → Stands all (tags act) wait t d → Stands all (tags act1) wait t d
-stands-same all act1 act wait t d e s = subst (λ (xs : List Piece). Stands all (tags xs) wait t d) (sym e) s
-
-pub kept-same : (front act1 act taken : List Piece) (t d : ℤ) → act1 ≡ act → tags front ≡ kept t d (tags act1) ++ tags taken → tags front ≡ kept t d (tags act) ++ tags taken
-kept-same front act1 act taken t d e k = subst (λ (xs : List Piece). tags front ≡ kept t d (tags xs) ++ tags taken) e k
-
-pub less-same : (act1 act : List Piece) (wait : List Tag) (t d t2 d2 : ℤ) → act1 ≡ act → rungs_left (tags act1 ++ wait) t2 d2 < rungs_left (tags act1 ++ wait) t d → rungs_left (tags act ++ wait) t2 d2 < rungs_left (tags act ++ wait) t d
-less-same act1 act wait t d t2 d2 e h = subst (λ (xs : List Piece). rungs_left (tags xs ++ wait) t2 d2 < rungs_left (tags xs ++ wait) t d) e h
-
-pub none-same : (act1 act w1 w : List Piece) (t d : ℤ) → act1 ≡ act → w1 ≡ w → NoneAbove (tags act1 ++ tags w1) t d → NoneAbove (tags act ++ tags w) t d
-none-same act1 act w1 w t d e f h = subst (λ (xs : List Piece). NoneAbove (tags xs ++ tags w) t d) e (subst (λ (xs : List Piece). NoneAbove (tags act1 ++ tags xs) t d) f h)
+pub none-same : (act1 act : List Strand) (w1 w : List Piece) (t d : ℤ) → act1 ≡ act → w1 ≡ w → NoneAbove (strand_tags act1 ++ tags w1) t d → NoneAbove (strand_tags act ++ tags w) t d
+none-same act1 act w1 w t d e f h = subst (λ (xs : List Strand). NoneAbove (strand_tags xs ++ tags w) t d) e (subst (λ (xs : List Piece). NoneAbove (strand_tags act1 ++ tags xs) t d) f h)
 
 pub within-more : (ps waiting : List Piece) (b n : ℕ) → b ≤ length ps → waiting ≡ drop b ps → n ≤ length waiting → b + n ≤ length ps
 within-more ps waiting b n h e k = let l : length waiting ≡ length ps - b = ap length e ∙ length-drop b ps in omega (arith, l)

@@ -5,7 +5,16 @@ pub mod NextSpot
 pub mod PartTags
 pub mod Fewer
 pub mod Rising
+pub mod RingTurns
+pub mod StrandLists
+pub mod Places
+pub mod Borders
+pub mod Stretches
+pub mod Turn
+pub mod Turns
 pub mod Whole
 pub mod Front
 pub mod Queue
 pub mod Disjoint
+pub mod ShareSteps
+pub mod Found

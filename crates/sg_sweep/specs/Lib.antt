@@ -1,4 +1,11 @@
 pub mod Pieces
 pub mod Rungs
 pub mod Fronts
+pub mod Wholes
+pub mod Strands
+pub mod Windows
+pub mod Steps
 pub mod Disjoint
+pub mod Shares
+pub mod Decided
+pub mod Aims

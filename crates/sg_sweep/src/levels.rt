@@ -46,7 +46,7 @@ pub fn is_above(y: i32, height: Ratio) -> bool
 }
 
 /// Whether it lies below the height.
-fn is_below(y: i32, height: Ratio) -> bool
+pub fn is_below(y: i32, height: Ratio) -> bool
     requires limit { unsigned_abs y ≤ 16000000 }
     requires height { IsRatio height }
     ensures { result ≡ lt_z (y *ℤ height.bottom) height.top }
@@ -91,7 +91,7 @@ pub fn lowest(edge: Edge) -> i32
 }
 
 /// The y of an edge's upper end.
-fn highest(edge: Edge) -> i32
+pub fn highest(edge: Edge) -> i32
     ensures { result ≡ (upward edge).to.y }
 {
     if edge.from.y < edge.to.y {
@@ -135,13 +135,4 @@ pub fn begins_by(edge: Edge, height: Ratio) -> bool
     ensures { result ≡ le_z ((upward edge).from.y *ℤ height.bottom) height.top }
 {
     is_at_or_below(lowest(edge), height)
-}
-
-/// Whether the edge ends below the height.
-pub fn ends_below(edge: Edge, height: Ratio) -> bool
-    requires edge { EdgeIn edge }
-    requires height { IsRatio height }
-    ensures { result ≡ lt_z ((upward edge).to.y *ℤ height.bottom) height.top }
-{
-    is_below(highest(edge), height)
 }
