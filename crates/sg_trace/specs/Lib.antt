@@ -1,3 +1,12 @@
 pub mod Candidates
 pub mod Replies
 pub mod Laws
+pub mod Keys
+pub mod Needs
+pub mod Traces
+pub mod Legal
+pub mod Scripts
+pub mod Driven
+pub mod Measure
+pub mod Rooms
+pub mod Pending

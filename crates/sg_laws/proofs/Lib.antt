@@ -1,0 +1,13 @@
+pub mod Order
+pub mod Lists
+pub mod Coded
+pub mod Clash
+pub mod Same
+pub mod Ends
+pub mod Grow
+pub mod Numbers
+pub mod Present
+pub mod Needs
+pub mod AllMet
+pub mod Reply
+pub mod Kept

@@ -1,0 +1,4 @@
+pub mod Serials
+pub mod Places
+pub mod Ordered
+pub mod Told

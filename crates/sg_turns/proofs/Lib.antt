@@ -1,0 +1,10 @@
+pub mod Clean
+pub mod Cycles
+pub mod Unique
+pub mod Driven
+pub mod Answers
+pub mod Progress
+pub mod Labels
+pub mod Costs
+pub mod Outcomes
+pub mod Victims

@@ -1,0 +1,5 @@
+pub mod Settling
+pub mod Found
+pub mod Phantom
+pub mod Deadlock
+pub mod OwnGap
