@@ -1,4 +1,3 @@
-pub mod SeenRows
 pub mod Stretches
 pub mod Orders
 pub mod Nexts
@@ -10,3 +9,11 @@ pub mod Answering
 pub mod Gathered
 pub mod CellsPut
 pub mod RowsPut
+pub mod Passing
+pub mod Bridges
+pub mod Steps
+pub mod Reading
+pub mod Parts
+pub mod There
+pub mod Fresh
+pub mod Codes

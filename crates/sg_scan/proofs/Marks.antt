@@ -11,12 +11,12 @@ use Rattle.sg_cells.specs.Tess.{Entry, is_cover, look_at, tess}
 use Rattle.sg_cells.proofs.Ids.{id-le-last, code_of_path}
 use Rattle.sg_cells.proofs.Lawful.{cells_stand, looks_right}
 use Rattle.sg_cellrows.specs.CellTable.{cell_cmp}
-use Rattle.sg_scan.specs.Agreement.{mark_at}
-use Rattle.sg_scan.proofs.SeenRows.{is_eq-nat_cmp}
+use Rattle.sg_stores.specs.Agreement.{mark_at}
+use Rattle.sg_locks.proofs.GrantLaws.{is_eq-nat_cmp}
 
 -- ---- the cells of a shape
 module _ (g : Grid) (grid : IsGrid g) (shape : Shape) (limit : ℕ) where
-  stands : Stands 4 g (parts_of shape) (tess g (look_at shape) limit)
+  pub stands : Stands 4 g (parts_of shape) (tess g (look_at shape) limit)
   stands = cells_stand g (parts_of shape) (look_at shape) limit grid (looks_right shape)
 
   pub tess_code : (e : Entry) → Has (tess g (look_at shape) limit) e → IsCode 4 e.0

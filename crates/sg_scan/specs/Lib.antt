@@ -1,4 +1,4 @@
-pub mod Agreement
 pub mod Hits
 pub mod Scans
 pub mod Loads
+pub mod Cursors

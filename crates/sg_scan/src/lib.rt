@@ -5,11 +5,13 @@
 
 mod lists;
 mod loads;
+mod needs;
 mod queries;
 mod scans;
 mod walks;
 
 pub use loads::{Loaded, load};
+pub use needs::{Modes, Place, Reader};
 pub use scans::{CellScan, Found, Scan};
 
 #[cfg(test)]

@@ -5,7 +5,7 @@ ghost use Rattle.sg_plain.specs.Keys.{IsRising};
 ghost use Rattle.sg_plain.specs.Rows.{keys_of};
 ghost use Rattle.sg_rows.specs.Table.{version_at, rows_past, row_key};
 ghost use Rattle.sg_versions.specs.Versions.{visible};
-ghost use Rattle.sg_scan.specs.Agreement.{seen_rows};
+ghost use Rattle.sg_stores.specs.Agreement.{seen_rows};
 ghost use Rattle.sg_scan.specs.Hits.{IsListOf, IsNextTableRow, key_where};
 
 use sg_cells::Key;
@@ -59,7 +59,7 @@ pub(crate) fn seen_keys(alloc: Global, s: Session, rows: &Rows) -> Result<KeyLis
 }
 
 /// The least key above this one, or of all.
-fn next_row(rows: &Rows, last: Option<u32>) -> Option<u32>
+pub(crate) fn next_row(rows: &Rows, last: Option<u32>) -> Option<u32>
     ensures next { IfSome result (IsNextTableRow rows.now.rows last) }
     ensures none { IfNone result (rows_past last rows.now.rows ≡ []) }
     ensures rising { HasRisingKeys nat_cmp rows.now.rows }

@@ -89,8 +89,8 @@ impl Waits {
         self.walk(s, steps, &layers)
     }
 
-    // for whom the session waits
-    fn blockers(&self, s: Session) -> Sessions
+    /// For whom the session waits: the blockers that its standing wait names, or nobody.
+    pub fn blockers(&self, s: Session) -> Sessions
         ensures blockers { result ≡ blockers_of self.now s }
         ensures session { IsSession s }
         ensures standing { AreWaits self.now }

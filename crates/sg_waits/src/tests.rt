@@ -32,6 +32,7 @@ fn cycle_of_three(rt: HostRuntime) {
     assert_eq!(rt; waits.cycle(session(&rt, 1)), set(&rt, &[1, 2, 3]));
     assert_eq!(rt; waits.cycle(session(&rt, 4)), Sessions::none());
     assert!(rt; waits.waits(session(&rt, 2)) && !waits.waits(session(&rt, 4)));
+    assert_eq!(rt; waits.blockers(session(&rt, 2)), set(&rt, &[3, 4]));
 }
 
 #[test]

@@ -1,0 +1,4 @@
+pub mod Agreement
+pub mod Held
+pub mod Keys
+pub mod Writes
