@@ -17,11 +17,13 @@ use Rattle.sg_versions.specs.declared.version.Version.{Version}
 use Rattle.sg_versions.specs.Versions.{visible}
 use Rattle.sg_rows.specs.Table as rows
 use Rattle.sg_cellrows.specs.CellTable as cells
-use Rattle.sg_scan.specs.Agreement.{committed_in, mark_at, mark_of, seen_rows}
+use Rattle.sg_stores.specs.Agreement.{committed_in, mark_at, mark_of, seen_rows}
 use Rattle.sg_table.specs.State.{TableState}
-use Rattle.sg_table.specs.Stores.{AreSessionRows, IsTable, IsWritten, AreCellsChanged, cells_in}
-use Rattle.sg_table.proofs.Picked.{is_eq-nat, shape_at-committed, shape_at-seen, committed_are_rows, seen_are_rows, same_rows}
-use Rattle.sg_table.proofs.Versioned.{visible_written, committed_written}
+use Rattle.sg_stores.specs.Writes.{IsWritten}
+use Rattle.sg_table.specs.Stores.{AreSessionRows, IsTable, AreCellsChanged, cells_in}
+use Rattle.sg_locks.proofs.GrantLaws.{is_eq-nat_cmp}
+use Rattle.sg_stores.proofs.Picked.{shape_at-committed, shape_at-seen, committed_are_rows, seen_are_rows, same_rows}
+use Rattle.sg_stores.proofs.Versioned.{visible_written, committed_written}
 
 -- the marks of a shape's cells, with a grid and without one
 pub marks_are : (g : Option Grid) (shape : Shape) (cell : Cell) → mark_at (cells_in g shape) cell ≡ mark_of g (Some shape) cell
@@ -62,7 +64,7 @@ module _ (s : ℕ) (table : List rows.TableRow) (are : AreSessionRows s table) (
 
 module _ (s : ℕ) (table : List rows.TableRow) (are : AreSessionRows s table) (k : ℕ) (shape : Option Shape) (new_table : List rows.TableRow) (new_are : AreSessionRows s new_table) (written : IsWritten nat_cmp s k shape table new_table) where
   row_seen : (j : ℕ) → visible s (rows.version_at new_table j) ≡ cond (eqb k j) shape (visible s (rows.version_at table j))
-  row_seen j = visible_written nat_cmp nat_cmp_total s k table shape new_table written j ∙ ap (λ b. cond b shape (visible s (rows.version_at table j))) (is_eq-nat k j)
+  row_seen j = visible_written nat_cmp nat_cmp_total s k table shape new_table written j ∙ ap (λ b. cond b shape (visible s (rows.version_at table j))) (is_eq-nat_cmp k j)
 
   row_committed : (j : ℕ) → committed_in (rows.version_at new_table j) ≡ committed_in (rows.version_at table j)
   row_committed j = committed_written nat_cmp nat_cmp_total s k table shape new_table written j

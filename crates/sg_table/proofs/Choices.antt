@@ -3,7 +3,7 @@ use Rattle.std.proofs.Common.{◌≡◌, ℕ, suc, ◌+◌, ◌≤◌, ◌<◌, 
 use Rattle.std.proofs.lemmas.Bool.{cond_both}
 use Rattle.sg_plain.specs.Keys.{RisesFrom, IsRising}
 use Rattle.sg_plain.proofs.KeyLemmas.{Has, RisesFrom-lower, any_none, greater_later, rising_next}
-use Rattle.sg_table.specs.Pending.{has_key, chosen}
+use Rattle.sg_trace.specs.Pending.{has_key, chosen}
 
 Has-place : (xs : List ℕ) (k : ℕ) → Has xs k → (i : ℕ) × (i < length xs) × (get_or xs i 0 ≡ k)
 Has-place [] k h = absurd h

@@ -13,12 +13,13 @@ use Rattle.sg_versions.proofs.Settling.{lookup_settled}
 use Rattle.sg_rows.specs.Table as rows
 use Rattle.sg_rows.proofs.SoundRows.{sound_settled}
 use Rattle.sg_cellrows.specs.CellTable as cells
-use Rattle.sg_scan.specs.Agreement.{committed_in, mark_of, seen_rows}
-use Rattle.sg_table.specs.Stores.{IsOwn, AreSessionRows, IsTable}
-use Rattle.sg_table.proofs.Picked.{shape_at-committed, shape_at-seen, committed_are_rows, seen_are_rows, same_rows}
-use Rattle.sg_table.proofs.Rising.{rising_settled}
-use Rattle.sg_table.proofs.CellKeys.{cell_key_total}
-use Rattle.sg_table.proofs.Versioned.{left, settled_seen, settled_committed, settled_own}
+use Rattle.sg_stores.specs.Agreement.{committed_in, mark_of, seen_rows}
+use Rattle.sg_stores.specs.Writes.{IsOwn}
+use Rattle.sg_table.specs.Stores.{AreSessionRows, IsTable}
+use Rattle.sg_stores.proofs.Picked.{shape_at-committed, shape_at-seen, committed_are_rows, seen_are_rows, same_rows}
+use Rattle.sg_stores.proofs.Rising.{rising_settled}
+use Rattle.sg_cellrows.proofs.NextCells.{cell_key_total}
+use Rattle.sg_stores.proofs.Versioned.{left, settled_seen, settled_committed, settled_own}
 
 module _ (c : Settings) (s : ℕ) (table : List rows.TableRow) (index : List cells.CellRow) (is : IsTable c s table index) (e : End)
     (new_table : List rows.TableRow) (new_index : List cells.CellRow) (table_ends : new_table ≡ settled e s table) (index_ends : new_index ≡ settled e s index) where

@@ -1,7 +1,3 @@
-pub mod Picked
-pub mod Rising
-pub mod Versioned
-pub mod CellKeys
 pub mod Endings
 pub mod Loads
 pub mod Rewriting

@@ -19,9 +19,11 @@ use Rattle.sg_rows.specs.Table as rows
 use Rattle.sg_rows.proofs.SoundRows.{sound_loaded}
 use Rattle.sg_cellrows.specs.CellTable as cells
 use Rattle.sg_trace.specs.Laws.{AreSettings}
-use Rattle.sg_scan.specs.Agreement.{committed_in, mark_of, seen_rows, AreLoaded}
-use Rattle.sg_table.specs.Stores.{IsOwn, IsTable}
-use Rattle.sg_table.proofs.Picked.{is_eq-nat, shape_at-committed, shape_at-seen, committed_are_rows, seen_are_rows, same_rows}
+use Rattle.sg_stores.specs.Agreement.{committed_in, mark_of, seen_rows, AreLoaded}
+use Rattle.sg_stores.specs.Writes.{IsOwn}
+use Rattle.sg_table.specs.Stores.{IsTable}
+use Rattle.sg_locks.proofs.GrantLaws.{is_eq-nat_cmp}
+use Rattle.sg_stores.proofs.Picked.{shape_at-committed, shape_at-seen, committed_are_rows, seen_are_rows, same_rows}
 
 -- ---- a version that nobody has written since it was loaded
 module _ {V : Type 0} (s : ℕ) where
@@ -58,10 +60,10 @@ loaded_at [] k = refl
 loaded_at (x ∷ all) k =
     elim (cases_eq x.0 k) [
       | inl same ↦
-          let here : is_eq (nat_cmp k x.0) ≡ true = is_eq-nat k x.0 ∙ eq-eqb k x.0 (sym same) in
+          let here : is_eq (nat_cmp k x.0) ≡ true = is_eq-nat_cmp k x.0 ∙ eq-eqb k x.0 (sym same) in
           ap (λ b. cond b (Some (kept_value x.1)) (rows.version_at (map rows.loaded_row all) k)) here ∙ ap (option_map kept_value) (sym (shape_at-same x all k same))
       | inr apart ↦
-          let there : is_eq (nat_cmp k x.0) ≡ false = is_eq-nat k x.0 ∙ ne_eqb k x.0 (λ e. apart (sym e)) in
+          let there : is_eq (nat_cmp k x.0) ≡ false = is_eq-nat_cmp k x.0 ∙ ne_eqb k x.0 (λ e. apart (sym e)) in
           ap (λ b. cond b (Some (kept_value x.1)) (rows.version_at (map rows.loaded_row all) k)) there ∙ loaded_at all k ∙ ap (option_map kept_value) (sym (shape_at-other x all k apart))
     ]
 

@@ -9,7 +9,7 @@ use Rattle.sg_plain.specs.declared.statements.Answer.TheVariants.{Done, Missing}
 use Rattle.sg_plain.specs.Replies.{Means, effect}
 use Rattle.sg_plain.specs.Rows.{Rows, AreRows, shape_at, without_key, without_keys}
 use Rattle.sg_plain.proofs.Lookups.{AreRows-without_key, AreRows-without_keys, shape_at-without_key_same, shape_at-without_key_other, shape_at-without_keys_kept, shape_at-without_keys_gone}
-use Rattle.sg_table.proofs.Picked.{same_rows}
+use Rattle.sg_stores.proofs.Picked.{same_rows}
 
 or_assoc : (a b c : Bool) → (a || (b || c)) ≡ ((a || b) || c)
 or_assoc true b c = refl

@@ -22,12 +22,14 @@ use Rattle.sg_versions.proofs.Indexes.{lookup_written}
 use Rattle.sg_versions.proofs.Orders.{flipped, equal_from}
 use Rattle.sg_cellrows.specs.CellTable.{CellKey, CellRow, cell_cmp, cell_key_cmp, version_at, is_above, IsLeast}
 use Rattle.sg_cellrows.proofs.NextCells.{cell_total}
-use Rattle.sg_scan.specs.Agreement.{committed_in, mark_at}
-use Rattle.sg_table.specs.Stores.{AreSessionCells, IsWritten, AreCellsChanged}
-use Rattle.sg_table.proofs.Picked.{is_eq-nat}
-use Rattle.sg_table.proofs.Rising.{rising_changed}
-use Rattle.sg_table.proofs.Versioned.{made_present, written_after_made, own_written, visible_written, committed_written}
-use Rattle.sg_table.proofs.CellKeys.{cell_key_total, same_key}
+use Rattle.sg_stores.specs.Agreement.{committed_in, mark_at}
+use Rattle.sg_stores.specs.Writes.{IsWritten}
+use Rattle.sg_table.specs.Stores.{AreSessionCells, AreCellsChanged}
+use Rattle.sg_locks.proofs.GrantLaws.{is_eq-nat_cmp}
+use Rattle.sg_stores.proofs.Rising.{rising_changed}
+use Rattle.sg_stores.proofs.Versioned.{made_present, written_after_made, own_written, visible_written, committed_written}
+use Rattle.sg_cellrows.proofs.NextCells.{cell_key_total}
+use Rattle.sg_stores.proofs.CellKeys.{same_key}
 
 -- ---- how many keys pass a test
 abbrev pub count : {K : Type 0} → (K → Bool) → List K → ℕ
@@ -196,7 +198,7 @@ later_at x (y ∷ es) (suc i) e later within is = later_at x es i e later.1 (ome
 
 not_alike : (x e : Entry) → last_of 4 x.0 < id_of 4 e.0 → cell_cmp x.0 e.0 ≡ Equal → ⊥
 not_alike x e lt same =
-    let equal : id_of 4 x.0 ≡ id_of 4 e.0 = eqb-true (id_of 4 x.0) (id_of 4 e.0) (sym (is_eq-nat (id_of 4 x.0) (id_of 4 e.0)) ∙ ap is_eq same) in
+    let equal : id_of 4 x.0 ≡ id_of 4 e.0 = eqb-true (id_of 4 x.0) (id_of 4 e.0) (sym (is_eq-nat_cmp (id_of 4 x.0) (id_of 4 e.0)) ∙ ap is_eq same) in
     let le = id-le-last_of 4 x.0 in
     omega (arith, equal, le, lt)
 

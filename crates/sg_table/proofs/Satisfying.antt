@@ -19,7 +19,7 @@ use Rattle.sg_trace.specs.Laws.{AreSettings}
 use Rattle.sg_trace.proofs.Found.{finds_each, sure_satisfy}
 use Rattle.sg_scan.specs.declared.scans.Found.{Found}
 use Rattle.sg_scan.specs.Scans.{IsFound}
-use Rattle.sg_table.specs.Pending.{has_key, is_pending, ArePending, chosen}
+use Rattle.sg_trace.specs.Pending.{has_key, is_pending, ArePending, chosen}
 use Rattle.sg_table.proofs.Waiting.{Has-from_test}
 
 -- ---- keys of the rows whose shapes pass a test

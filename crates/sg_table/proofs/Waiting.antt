@@ -8,7 +8,7 @@ use Rattle.sg_plain.specs.Keys.{RisesFrom, IsRising}
 use Rattle.sg_plain.specs.Rows.{Rows, AreRows, keys_of, shape_at}
 use Rattle.sg_plain.proofs.Lookups.{shape_at-append_absent, shape_at-append_present, shape_at-same, shape_at-other, held_at_least}
 use Rattle.sg_plain.proofs.KeyLemmas.{Has, greater_later}
-use Rattle.sg_table.specs.Pending.{has_key, is_pending, ArePending, IsAboveAll, added, offered}
+use Rattle.sg_trace.specs.Pending.{has_key, is_pending, ArePending, IsAboveAll, added, offered}
 
 -- ---- keys in lists
 or_rest : (x y : Bool) → x ≡ false → (x || y) ≡ true → y ≡ true

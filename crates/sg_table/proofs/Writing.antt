@@ -14,10 +14,11 @@ use Rattle.sg_versions.proofs.Indexes.{lookup_written}
 use Rattle.sg_rows.specs.Table as rows
 use Rattle.sg_rows.proofs.SoundRows.{sound_inserted, sound_fresh, sound_written}
 use Rattle.sg_cellrows.specs.CellTable as cells
-use Rattle.sg_table.specs.Stores.{AreSessionRows, AreSessionCells, IsMade, IsWritten}
-use Rattle.sg_table.proofs.Rising.{rising_inserted, rising_changed}
-use Rattle.sg_table.proofs.Versioned.{made_absent, own_after_made, present_after_made, written_after_made, own_written}
-use Rattle.sg_table.proofs.CellKeys.{cell_key_total}
+use Rattle.sg_stores.specs.Writes.{IsMade, IsWritten}
+use Rattle.sg_table.specs.Stores.{AreSessionRows, AreSessionCells}
+use Rattle.sg_stores.proofs.Rising.{rising_inserted, rising_changed}
+use Rattle.sg_stores.proofs.Versioned.{made_absent, own_after_made, present_after_made, written_after_made, own_written}
+use Rattle.sg_cellrows.proofs.NextCells.{cell_key_total}
 
 module _ (s k : ℕ) (old : List rows.TableRow) (are : AreSessionRows s old) where
   module _ (new : List rows.TableRow) (absent : is_some (rows.version_at old k) ≡ false) (new_is : new ≡ insert_entry nat_cmp old k (fresh s)) where

@@ -16,11 +16,8 @@ use Rattle.sg_versions.specs.Writers.{writer_of}
 use Rattle.sg_rows.specs.Table as rows
 use Rattle.sg_cellrows.specs.CellTable as cells
 use Rattle.sg_trace.specs.Laws.{AreSettings}
-use Rattle.sg_scan.specs.Agreement.{committed_in, SeenAgree, CommittedAgree}
-
--- no other session has written there
-abbrev pub IsOwn : {V : Type 0} → ℕ → Option (Version V) → Type 0
-IsOwn s o = (writer_of o ≡ None) ⊎ (writer_of o ≡ Some s)
+use Rattle.sg_stores.specs.Writes.{IsOwn}
+use Rattle.sg_stores.specs.Agreement.{committed_in, SeenAgree, CommittedAgree}
 
 -- rows by rising key with sound shapes, which this session alone writes
 pub record AreSessionRows (s : ℕ) (table : List rows.TableRow) : Type 0 where
@@ -47,20 +44,6 @@ cells_in None shape = []
 cells_in (Some g) shape = row_cells g shape
 
 -- ---- what a change does
--- the version that the session writes at: the one there, or a fresh one
-abbrev pub made : {V : Type 0} → ℕ → Option (Version V) → Version V
-made s None = fresh s
-made s (Some v) = v
-
-module _ {K V : Type 0} (cmp : K → K → Ordering) where
-  -- the key is there, and nothing else has changed
-  abbrev pub IsMade : ℕ → K → List (K × Version V) → List (K × Version V) → Type 0
-  IsMade s key old new = (k : K) → lookup (is_at (cmp k)) new ≡ cond (is_eq (cmp key k)) (Some (made s (lookup (is_at (cmp k)) old))) (lookup (is_at (cmp k)) old)
-
-  -- the session has left this value, or none, at the key, and nothing else has changed
-  abbrev pub IsWritten : ℕ → K → Option V → List (K × Version V) → List (K × Version V) → Type 0
-  IsWritten s key value old new = (k : K) → lookup (is_at (cmp k)) new ≡ cond (is_eq (cmp key k)) (Some (written s value (made s (lookup (is_at (cmp k)) old)))) (lookup (is_at (cmp k)) old)
-
 -- of the cell rows, the session now sees these marks at the cells of the row with the key, and nothing else has changed
 pub record AreCellsChanged (s k : ℕ) (marks : Cell → Option Mark) (old new : List cells.CellRow) : Type 0 where
   pub cells_are : AreSessionCells s new

@@ -5,8 +5,9 @@ ghost use Rattle.sg_cells.specs.Cells as paths;
 ghost use Rattle.sg_versions.specs.Versions.{visible};
 ghost use Rattle.sg_rows.specs.Table as table;
 ghost use Rattle.sg_cellrows.specs.CellTable.{version_at, cell_key_cmp};
-ghost use Rattle.sg_scan.specs.Agreement.{mark_at};
-ghost use Rattle.sg_table.specs.Stores.{AreSessionRows, AreSessionCells, AreCellsChanged, IsMade, IsWritten, cells_in};
+ghost use Rattle.sg_stores.specs.Agreement.{mark_at};
+ghost use Rattle.sg_stores.specs.Writes.{IsMade, IsWritten};
+ghost use Rattle.sg_table.specs.Stores.{AreSessionRows, AreSessionCells, AreCellsChanged, cells_in};
 
 use sg_cellrows::CellRows;
 use sg_cells::{Cell, CellList, Mark, Settings};

@@ -4,19 +4,23 @@ ghost use Rattle.sg_plain.specs.Serial.{Executes};
 ghost use Rattle.sg_trace.specs.Replies.{ExecutesIn};
 
 use crate::table::Table;
+use crate::workers::Workers;
 use sg_plain::{Answers, Transaction};
+use sg_refine::Gate;
 use sg_shape::{CellJudge, Items, Judge};
 use std::alloc::{AllocError, Global};
+use std::thread::Threads;
 
 impl Table {
     /// Executes the statements of a transaction, in order, whatever its end is.
     ///
     /// `AllocError` is want of memory; some of the statements have been executed then.
-    pub fn execute<J: Judge, C: CellJudge>(
+    pub fn execute<R: Threads + Sync, J: Judge + Sync, C: CellJudge, G: Gate + Sync>(
         &mut self,
         alloc: Global,
         judge: &J,
         cell_judge: &C,
+        workers: &Workers<R, G>,
         transaction: &Transaction,
     ) -> Result<Answers, AllocError>
         ensures settings { self.new.settings ≡ self.old.settings }
@@ -28,7 +32,7 @@ impl Table {
         let _limits = self.settings();
         let mut answers = Items::new(alloc);
         for statement in transaction.as_slice() {
-            let answer = self.answer(alloc, judge, cell_judge, statement)?;
+            let answer = self.answer(alloc, judge, cell_judge, workers, statement)?;
             if answers.push(answer).is_err() {
                 return Err(AllocError);
             }

@@ -6,9 +6,11 @@ mod cells;
 mod executes;
 mod queries;
 mod table;
+mod workers;
 mod writes;
 
 pub use table::Table;
+pub use workers::Workers;
 
 #[cfg(test)]
 mod query_tests;

@@ -7,25 +7,28 @@ ghost use Rattle.sg_plain.specs.Rows.{IsKeysWith, shape_at};
 ghost use Rattle.sg_plain.specs.Sat.{IsSoundAnswer, IsSoundQuery, IsSoundStatement, Satisfies};
 ghost use Rattle.sg_scan.specs.Scans.{IsFound};
 ghost use Rattle.sg_trace.specs.Replies.{IsFilterBy, Reply};
-ghost use Rattle.sg_table.specs.Pending.{ArePending, IsAboveAll, chosen, has_key, offered};
+ghost use Rattle.sg_trace.specs.Pending.{ArePending, IsAboveAll, chosen, has_key, offered};
 
 use crate::table::Table;
+use crate::workers::Workers;
 use sg_plain::{Answer, KeyList, Query, Statement, Test};
-use sg_refine::{JobName, RefineJob, refine};
+use sg_refine::{Gate, JobName, RefineJob, refine};
 use sg_scan::{Found, Scan};
 use sg_shape::{CellJudge, Judge, Pred, Shape};
 use std::alloc::{AllocError, Global};
+use std::thread::Threads;
 
 impl Table {
     /// Answers a statement, and leaves the rows after it. With an index the rows are found through their
-    /// cells, and what these don't decide is tested by the judge of shapes.
+    /// cells, and what these don't decide is tested by the judge of shapes, shared among the workers.
     ///
     /// `AllocError` is want of memory; the table is as it was then.
-    pub fn answer<J: Judge, C: CellJudge>(
+    pub fn answer<R: Threads + Sync, J: Judge + Sync, C: CellJudge, G: Gate + Sync>(
         &mut self,
         alloc: Global,
         judge: &J,
         cell_judge: &C,
+        workers: &Workers<R, G>,
         statement: &Statement,
     ) -> Result<Answer, AllocError>
         requires { IsSoundStatement statement.now }
@@ -43,40 +46,44 @@ impl Table {
             Statement::Update(key, shape) => self.update(alloc, cell_judge, *key, shape),
             Statement::Delete(key) => Ok(self.delete(*key)),
             Statement::Get(key) => self.get(alloc, *key),
-            Statement::Select(query) => self.select(alloc, judge, cell_judge, query),
-            Statement::Plan(query) => self.plan(alloc, judge, cell_judge, query),
-            Statement::Filter(shape) => self.filter(alloc, judge, cell_judge, shape),
-            Statement::DeleteWhere(query) => self.delete_where(alloc, judge, cell_judge, query),
+            Statement::Select(query) => self.select(alloc, judge, cell_judge, workers, query),
+            Statement::Plan(query) => self.plan(alloc, judge, cell_judge, workers, query),
+            Statement::Filter(shape) => self.filter(alloc, judge, cell_judge, workers, shape),
+            Statement::DeleteWhere(query) => self.delete_where(
+                alloc, judge, cell_judge, workers, query,
+            ),
         }
     }
 
-    fn select<J: Judge, C: CellJudge>(
+    fn select<R: Threads + Sync, J: Judge + Sync, C: CellJudge, G: Gate + Sync>(
         &self,
         alloc: Global,
         judge: &J,
         cell_judge: &C,
+        workers: &Workers<R, G>,
         query: &Query,
     ) -> Result<Answer, AllocError>
         requires { IsSoundQuery query.now }
         ensures { IfOk result (Means self.now.seen (Statement.Select query.now)) }
     {
         let found = self.found(alloc, cell_judge, query)?;
-        let keys = self.satisfying(alloc, judge, query, &found)?;
+        let keys = self.satisfying(alloc, judge, workers, query, &found)?;
         Ok(Answer::Keys(keys))
     }
 
-    fn plan<J: Judge, C: CellJudge>(
+    fn plan<R: Threads + Sync, J: Judge + Sync, C: CellJudge, G: Gate + Sync>(
         &self,
         alloc: Global,
         judge: &J,
         cell_judge: &C,
+        workers: &Workers<R, G>,
         query: &Query,
     ) -> Result<Answer, AllocError>
         requires { IsSoundQuery query.now }
         ensures { IfOk result (Reply self.now.settings self.now.seen (Statement.Plan query.now)) }
     {
         let found = self.found(alloc, cell_judge, query)?;
-        let keys = self.satisfying(alloc, judge, query, &found)?;
+        let keys = self.satisfying(alloc, judge, workers, query, &found)?;
         let candidates = found.candidates.len() as u64;
         let sure = found.sure.len() as u64;
         Ok(Answer::Plan {
@@ -87,11 +94,12 @@ impl Table {
         })
     }
 
-    fn filter<J: Judge, C: CellJudge>(
+    fn filter<R: Threads + Sync, J: Judge + Sync, C: CellJudge, G: Gate + Sync>(
         &self,
         alloc: Global,
         judge: &J,
         cell_judge: &C,
+        workers: &Workers<R, G>,
         shape: &Shape,
     ) -> Result<Answer, AllocError>
         requires { IsSound shape.now }
@@ -101,16 +109,17 @@ impl Table {
             test: Test::Relate(Pred::Intersects),
             shape: shape.copy(alloc)?,
         };
-        let keys = self.meeting(alloc, judge, cell_judge, &query)?;
+        let keys = self.meeting(alloc, judge, cell_judge, workers, &query)?;
         Ok(Answer::Keys(keys))
     }
 
     /// The keys that a filter answers: the candidates, or without an index the rows that intersect.
-    fn meeting<J: Judge, C: CellJudge>(
+    fn meeting<R: Threads + Sync, J: Judge + Sync, C: CellJudge, G: Gate + Sync>(
         &self,
         alloc: Global,
         judge: &J,
         cell_judge: &C,
+        workers: &Workers<R, G>,
         query: &Query,
     ) -> Result<KeyList, AllocError>
         requires sound { IsSoundQuery query.now }
@@ -120,15 +129,16 @@ impl Table {
         let found = self.found(alloc, cell_judge, query)?;
         match self.settings().grid {
             Some(_) => Ok(found.candidates),
-            None => self.satisfying(alloc, judge, query, &found),
+            None => self.satisfying(alloc, judge, workers, query, &found),
         }
     }
 
-    fn delete_where<J: Judge, C: CellJudge>(
+    fn delete_where<R: Threads + Sync, J: Judge + Sync, C: CellJudge, G: Gate + Sync>(
         &mut self,
         alloc: Global,
         judge: &J,
         cell_judge: &C,
+        workers: &Workers<R, G>,
         query: &Query,
     ) -> Result<Answer, AllocError>
         requires { IsSoundQuery query.now }
@@ -139,7 +149,7 @@ impl Table {
         ensures err { OnErr result (self.new ≡ self.old) }
     {
         let found = self.found(alloc, cell_judge, query)?;
-        let keys = self.satisfying(alloc, judge, query, &found)?;
+        let keys = self.satisfying(alloc, judge, workers, query, &found)?;
         self.delete_all(keys.as_slice());
         Ok(Answer::Deleted(keys))
     }
@@ -161,10 +171,11 @@ impl Table {
 
     /// The keys of the rows that satisfy the query, of which this was found: those that are sure, and those
     /// of the others that the judge finds to satisfy it.
-    fn satisfying<J: Judge>(
+    fn satisfying<R: Threads + Sync, J: Judge + Sync, G: Gate + Sync>(
         &self,
         alloc: Global,
         judge: &J,
+        workers: &Workers<R, G>,
         query: &Query,
         found: &Found,
     ) -> Result<KeyList, AllocError>
@@ -174,7 +185,7 @@ impl Table {
     {
         let _limits = self.settings();
         let job = self.pending(alloc, query, found)?;
-        match refine(alloc, judge, job) {
+        match refine(workers.rt, alloc, judge, workers.count, workers.gate, job) {
             Ok(done) => chosen(alloc, found, &done.into_keys()),
             Err(_) => Err(AllocError),
         }

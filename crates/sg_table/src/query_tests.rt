@@ -2,6 +2,7 @@ use super::*;
 use sg_cells::{Density, Grid, Settings};
 use sg_celltest::CellTest;
 use sg_plain::{Answer, End, PlainRows, Statement, Transaction};
+use sg_refine::OpenGate;
 use sg_relate::Relate;
 use sg_shape::{Shape, Spot};
 use std::test::Fail;
@@ -26,7 +27,12 @@ fn filters_by_cells_alone(rt: HostRuntime) -> Result<(), Fail> {
     rows.push(1, Shape::Point(Spot { x: 10, y: 10 }))?;
     let mut table = Table::load(&rt, rt.alloc(), &CellTest, settings, rows)?;
     let filter = Statement::Filter(Shape::Point(Spot { x: 20, y: 20 }));
-    let answer = table.answer(rt.alloc(), &Relate, &CellTest, &filter)?;
+    let workers = Workers {
+        rt: &rt,
+        count: 1,
+        gate: &OpenGate,
+    };
+    let answer = table.answer(rt.alloc(), &Relate, &CellTest, &workers, &filter)?;
     assert!(rt; is_key(&answer, 1));
     Ok(())
 }
@@ -42,7 +48,12 @@ fn executes_a_transaction(rt: HostRuntime) -> Result<(), Fail> {
     let mut table = Table::load(&rt, rt.alloc(), &CellTest, settings, rows)?;
     let mut transaction = Transaction::new(rt.alloc(), End::Commit);
     assert!(rt; transaction.push(Statement::Get(7)).is_ok());
-    let answers = table.execute(rt.alloc(), &Relate, &CellTest, &transaction)?;
+    let workers = Workers {
+        rt: &rt,
+        count: 4,
+        gate: &OpenGate,
+    };
+    let answers = table.execute(rt.alloc(), &Relate, &CellTest, &workers, &transaction)?;
     assert!(rt; matches!(answers.at(0), Some(Answer::Absent)));
     Ok(())
 }

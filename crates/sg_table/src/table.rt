@@ -30,7 +30,7 @@ pub struct Table {
 
 impl Model for Table {
     ghost use Rattle.sg_rows.specs.Table.{committed_rows};
-    ghost use Rattle.sg_scan.specs.Agreement.{seen_rows};
+    ghost use Rattle.sg_stores.specs.Agreement.{seen_rows};
     ghost use Rattle.sg_table.specs.State.{TableState};
     ghost use Rattle.sg_table.specs.Stores.{IsTable};
 

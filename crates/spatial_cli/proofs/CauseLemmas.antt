@@ -9,7 +9,9 @@ use Rattle.spatial_cli.specs.declared.status.Ending.TheVariants as ending
 use Rattle.spatial_cli.specs.declared.status.Status.TheVariants.{Script, OutOfMemory}
 use Rattle.spatial_cli.specs.declared.words.Form.{Form}
 use Rattle.spatial_cli.specs.declared.words.Form.TheVariants.{Replay}
-use Rattle.spatial_cli.specs.Runs.{Gave, HoldsNone, IsCut, IsReplay}
+use Rattle.std.specs.Io.KnownBytes.{Appends}
+use Rattle.std.proofs.Common.{take}
+use Rattle.spatial_cli.specs.Runs.{Gave, HoldsNone, IsCut, IsReplay, IsTextOf}
 use Rattle.spatial_cli.specs.Statuses.{status_of}
 
 no_script : (bytes : List ℕ) (plan : Plan) → length bytes ≤ 67108864 → script_in bytes ≡ Ok plan →
@@ -33,16 +35,32 @@ pub refused : (end : Ending) (form : Option Form) (before after old new : Option
     (end ≡ ending.Usage → form ≡ None) →
     (end ≡ ending.ReadFault → Rose f g) →
     (end ≡ ending.WriteFault → IsCut before after old new) →
-    form ≡ Some Replay → HoldsNone before → (Rose f g → ⊥) → (status_of end ≡ Script) ⊎ (status_of end ≡ OutOfMemory)
-refused ending.Done form before after old new f g done usage read cut is_replay holds calm =
+    (workers : ℕ) → form ≡ Some (Replay workers) → HoldsNone before → (Rose f g → ⊥) → (status_of end ≡ Script) ⊎ (status_of end ≡ OutOfMemory)
+refused ending.Done form before after old new f g done usage read cut workers is_replay holds calm =
     let d = done refl in absurd (gave_none before after d.bytes d.plan holds d.given d.script)
-refused ending.Usage form before after old new f g done usage read cut is_replay holds calm = absurd (some_form (sym is_replay ∙ usage refl))
+refused ending.Usage form before after old new f g done usage read cut workers is_replay holds calm = absurd (some_form (sym is_replay ∙ usage refl))
   where
-    some_form : ◌≡◌ {A = Option Form} (Some Replay) None → ⊥
+    some_form : ◌≡◌ {A = Option Form} (Some (Replay workers)) None → ⊥
     some_form e = cc
-refused ending.Refused form before after old new f g done usage read cut is_replay holds calm = inl refl
-refused ending.TooLong form before after old new f g done usage read cut is_replay holds calm = inl refl
-refused ending.ReadFault form before after old new f g done usage read cut is_replay holds calm = absurd (calm (read refl))
-refused ending.WriteFault form before after old new f g done usage read cut is_replay holds calm =
+refused ending.Refused form before after old new f g done usage read cut workers is_replay holds calm = inl refl
+refused ending.TooLong form before after old new f g done usage read cut workers is_replay holds calm = inl refl
+refused ending.ReadFault form before after old new f g done usage read cut workers is_replay holds calm = absurd (calm (read refl))
+refused ending.WriteFault form before after old new f g done usage read cut workers is_replay holds calm =
     let d = cut refl in absurd (gave_none before after d.bytes d.plan holds d.given d.script)
-refused ending.OutOfMemory form before after old new f g done usage read cut is_replay holds calm = inr refl
+refused ending.OutOfMemory form before after old new f g done usage read cut workers is_replay holds calm = inr refl
+
+-- a front of the text was printed
+pub cut_of : (before after old new : Option (List ℕ)) (bytes text : List ℕ) (sent : ℕ) → Gave before after bytes → IsTextOf bytes text →
+    sent < length text → Appends old new (take sent text) → IsCut before after old new
+cut_of before after old new bytes text sent given run short printed = record {
+  bytes = bytes;
+  plan = run.plan;
+  report = run.report;
+  sent = sent;
+  given = given;
+  script = run.script;
+  run = run.run;
+  fits = run.fits;
+  short = subst (λ (t : List ℕ). sent < length t) run.is short;
+  printed = subst (λ (t : List ℕ). Appends old new (take sent t)) run.is printed;
+}

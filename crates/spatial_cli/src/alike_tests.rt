@@ -2,6 +2,7 @@ use crate::program::replay_main;
 use crate::status::Status;
 use crate::tests::{replay, sink};
 use sg_io::{MemorySink, MemorySource};
+use sg_refine::OpenGate;
 use std::alloc::Global;
 use std::process::Abort;
 use std::test::Fail;
@@ -19,7 +20,15 @@ fn printed<R: Abort + Threads + Sync>(
     let mut source = MemorySource::new(text, 100, Vec::new(alloc));
     let mut out = sink(alloc)?;
     let mut err = sink(alloc)?;
-    let status = replay_main(rt, alloc, &replay(alloc)?, &mut source, &mut out, &mut err);
+    let status = replay_main(
+        rt,
+        alloc,
+        &replay(alloc)?,
+        &mut source,
+        &mut out,
+        &mut err,
+        &OpenGate,
+    );
     assert_eq!(rt; status, Status::Done);
     Ok(out)
 }

@@ -6,6 +6,7 @@ mod alike_tests;
 #[cfg(test)]
 mod index_tests;
 mod laws;
+mod numbers;
 mod player;
 mod program;
 #[cfg(test)]
@@ -16,10 +17,13 @@ mod status;
 #[cfg(test)]
 mod tests;
 mod words;
+#[cfg(test)]
+mod workers_tests;
 
 pub use laws::text_tells_run;
 pub use program::{replay_main, spatial_main};
 use sg_io::{StdSink, StdSource};
+use sg_refine::OpenGate;
 pub use status::Status;
 use std::alloc::AllocError;
 use std::env;
@@ -34,7 +38,15 @@ fn main(rt: HostRuntime) -> ExitCode {
     let mut source = StdSource::new(rt.stdin());
     let mut out = StdSink::new(rt.stdout());
     let mut err = StdSink::new(rt.stderr());
-    let status = spatial_main(&rt, rt.alloc(), &words, &mut source, &mut out, &mut err);
+    let status = spatial_main(
+        &rt,
+        rt.alloc(),
+        &words,
+        &mut source,
+        &mut out,
+        &mut err,
+        &OpenGate,
+    );
     ExitCode::from(status.number())
 }
 

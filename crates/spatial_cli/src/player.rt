@@ -6,10 +6,11 @@ ghost use Rattle.spatial_cli.specs.Plays.{IsRun, Numbered, PlayedTo, numbered_se
 
 use sg_modes::Session;
 use sg_plain::{End, Transaction};
+use sg_refine::Gate;
 use sg_report::{Commit, Ending, Other, Report};
 use sg_script::{Script, SessionScript};
 use sg_shape::{CellJudge, Items, Judge};
-use sg_table::Table;
+use sg_table::{Table, Workers};
 use std::alloc::{AllocError, Global};
 use std::thread::Threads;
 
@@ -34,11 +35,11 @@ pub struct Judges<J, C> {
 }
 
 /// Plays all transactions of the first session, then those of the next, by rising number, on a table with the
-/// script's settings.
-pub fn play<R: Threads + Sync, J: Judge, C: CellJudge + Sync>(
-    rt: &R,
+/// script's settings. The workers refine what each query has found.
+pub fn play<R: Threads + Sync, J: Judge + Sync, C: CellJudge + Sync, G: Gate + Sync>(
     alloc: Global,
     judges: &Judges<J, C>,
+    workers: &Workers<R, G>,
     script: &Script,
 ) -> Result<Report, AllocError>
     ensures run { IfOk result (IsRun script.now) }
@@ -46,13 +47,13 @@ pub fn play<R: Threads + Sync, J: Judge, C: CellJudge + Sync>(
 {
     let rows = script.rows().copy(alloc)?;
     let mut game = Game {
-        table: Table::load(rt, alloc, &judges.cells, *script.settings(), rows)?,
+        table: Table::load(workers.rt, alloc, &judges.cells, *script.settings(), rows)?,
         commits: Items::new(alloc),
         others: Items::new(alloc),
     };
     let sessions = script.sessions();
     for session in sessions {
-        play_session(alloc, judges, session, &mut game)?;
+        play_session(alloc, judges, workers, session, &mut game)?;
     }
     let rows = game.table.committed(alloc)?;
     Ok(Report {
@@ -63,9 +64,10 @@ pub fn play<R: Threads + Sync, J: Judge, C: CellJudge + Sync>(
 }
 
 /// Plays the transactions of a session, in order.
-fn play_session<J: Judge, C: CellJudge>(
+fn play_session<R: Threads + Sync, J: Judge + Sync, C: CellJudge, G: Gate + Sync>(
     alloc: Global,
     judges: &Judges<J, C>,
+    workers: &Workers<R, G>,
     session: &SessionScript,
     game: &mut Game,
 ) -> Result<(), AllocError>
@@ -75,15 +77,24 @@ fn play_session<J: Judge, C: CellJudge>(
     let owner = session.session;
     let transactions = session.transactions.as_slice();
     for (i, transaction) in transactions.iter().enumerate() {
-        play_transaction(alloc, judges, owner, i as u64 + 1, transaction, game)?;
+        play_transaction(
+            alloc,
+            judges,
+            workers,
+            owner,
+            i as u64 + 1,
+            transaction,
+            game,
+        )?;
     }
     Ok(())
 }
 
 /// Plays a transaction. What it has written is kept where it commits, and else undone.
-fn play_transaction<J: Judge, C: CellJudge>(
+fn play_transaction<R: Threads + Sync, J: Judge + Sync, C: CellJudge, G: Gate + Sync>(
     alloc: Global,
     judges: &Judges<J, C>,
+    workers: &Workers<R, G>,
     session: Session,
     number: u64,
     transaction: &Transaction,
@@ -93,7 +104,7 @@ fn play_transaction<J: Judge, C: CellJudge>(
         → PlayedTo c first (before ++ record { session = session; number = number; plan = transaction.now } ∷ []) game.new) }
 {
     let table = &mut game.table;
-    let answers = table.execute(alloc, &judges.shapes, &judges.cells, transaction)?;
+    let answers = table.execute(alloc, &judges.shapes, &judges.cells, workers, transaction)?;
     match transaction.end() {
         End::Commit => {
             table.keep();

@@ -1,4 +1,4 @@
-ghost use Rattle.std.specs.Prelude.{◌≡◌, ◌≢◌, ◌⊎◌, ◌↔◌, ◌≤◌, Some, None, Err, length, IfOk, IsErrOf};
+ghost use Rattle.std.specs.Prelude.{◌≡◌, ℕ, ◌≢◌, ◌⊎◌, ◌↔◌, ◌≤◌, Some, None, Err, length, IfOk, IsErrOf};
 ghost use Rattle.sg_script.specs.declared.faults.ScriptFault.{ScriptFault};
 ghost use Rattle.sg_script.specs.Grammar.{script_in};
 ghost use Rattle.sg_io.specs.Causes.{Rose};
@@ -12,20 +12,23 @@ use crate::status::{Ending, Status};
 use crate::words::{Form, Words};
 use sg_celltest::CellTest;
 use sg_io::{ReadEnd, Sink, Source, read_all, write_all};
+use sg_refine::Gate;
 use sg_relate::Relate;
 use sg_report::report;
 use sg_script::{ReadScript, read_script};
+use sg_table::Workers;
 use std::alloc::{AllocError, Global};
 use std::thread::Threads;
 
 /// Does what the words ask for: for now `replay` alone has a form.
-pub fn spatial_main<R: Threads + Sync, S: Source, K: Sink, E: Sink>(
+pub fn spatial_main<R: Threads + Sync, S: Source, K: Sink, E: Sink, G: Gate + Sync>(
     rt: &R,
     alloc: Global,
     words: &Words,
     source: &mut S,
     out: &mut K,
     err: &mut E,
+    gate: &G,
 ) -> Status
     // The headline.
     ensures done { result ≡ Status.Done → IsReplay (S.left source.old) (S.left source.new) (K.taken out.old) (K.taken out.new) }
@@ -46,24 +49,25 @@ pub fn spatial_main<R: Threads + Sync, S: Source, K: Sink, E: Sink>(
         → Told (E.faults err.old) (E.faults err.new) (E.taken err.old) (E.taken err.new) (message_of e) }
 
     // Words of the form and a script give the whole text, and other bytes are refused, unless there is no memory.
-    ensures complete { form_of words.now ≡ Some Form.Replay → HoldsScript (S.left source.old)
+    ensures complete { (workers : ℕ) → form_of words.now ≡ Some (Form.Replay workers) → HoldsScript (S.left source.old)
         → ¬ Rose (S.faults source.old) (S.faults source.new) → ¬ Rose (K.faults out.old) (K.faults out.new)
         → (result ≡ Status.Done) ⊎ (result ≡ Status.OutOfMemory) }
-    ensures refuses { form_of words.now ≡ Some Form.Replay → HoldsNone (S.left source.old)
+    ensures refuses { (workers : ℕ) → form_of words.now ≡ Some (Form.Replay workers) → HoldsNone (S.left source.old)
         → ¬ Rose (S.faults source.old) (S.faults source.new) → (result ≡ Status.Script) ⊎ (result ≡ Status.OutOfMemory) }
 {
-    replay_main(rt, alloc, words, source, out, err)
+    replay_main(rt, alloc, words, source, out, err, gate)
 }
 
 /// Reads a script, plays it, and prints what came of it: the commits with their answers, the other transactions,
 /// and the rows that are left. What went wrong is told on `err`; a failure there changes nothing.
-pub fn replay_main<R: Threads + Sync, S: Source, K: Sink, E: Sink>(
+pub fn replay_main<R: Threads + Sync, S: Source, K: Sink, E: Sink, G: Gate + Sync>(
     rt: &R,
     alloc: Global,
     words: &Words,
     source: &mut S,
     out: &mut K,
     err: &mut E,
+    gate: &G,
 ) -> Status
     // The headline.
     ensures done { result ≡ Status.Done → IsReplay (S.left source.old) (S.left source.new) (K.taken out.old) (K.taken out.new) }
@@ -84,13 +88,13 @@ pub fn replay_main<R: Threads + Sync, S: Source, K: Sink, E: Sink>(
         → Told (E.faults err.old) (E.faults err.new) (E.taken err.old) (E.taken err.new) (message_of e) }
 
     // Words of the form and a script give the whole text, and other bytes are refused, unless there is no memory.
-    ensures complete { form_of words.now ≡ Some Form.Replay → HoldsScript (S.left source.old)
+    ensures complete { (workers : ℕ) → form_of words.now ≡ Some (Form.Replay workers) → HoldsScript (S.left source.old)
         → ¬ Rose (S.faults source.old) (S.faults source.new) → ¬ Rose (K.faults out.old) (K.faults out.new)
         → (result ≡ Status.Done) ⊎ (result ≡ Status.OutOfMemory) }
-    ensures refuses { form_of words.now ≡ Some Form.Replay → HoldsNone (S.left source.old)
+    ensures refuses { (workers : ℕ) → form_of words.now ≡ Some (Form.Replay workers) → HoldsNone (S.left source.old)
         → ¬ Rose (S.faults source.old) (S.faults source.new) → (result ≡ Status.Script) ⊎ (result ≡ Status.OutOfMemory) }
 {
-    let end = replay(rt, alloc, words, source, out);
+    let end = replay(rt, alloc, words, source, out, gate);
     tell(err, end.message());
     end.status()
 }
@@ -104,12 +108,13 @@ fn tell<E: Sink>(err: &mut E, message: &[u8])
     }
 }
 
-fn replay<R: Threads + Sync, S: Source, K: Sink>(
+fn replay<R: Threads + Sync, S: Source, K: Sink, G: Gate + Sync>(
     rt: &R,
     alloc: Global,
     words: &Words,
     source: &mut S,
     out: &mut K,
+    gate: &G,
 ) -> Ending
     ensures done { result ≡ Ending.Done → IsReplay (S.left source.old) (S.left source.new) (K.taken out.old) (K.taken out.new) }
     ensures usage { (result ≡ Ending.Usage) ↔ (form_of words.now ≡ None) }
@@ -123,13 +128,17 @@ fn replay<R: Threads + Sync, S: Source, K: Sink>(
 {
     match words.form() {
         None => Ending::Usage,
-        Some(Form::Replay) => replay_all(rt, alloc, source, out),
+        Some(Form::Replay { workers: count }) => {
+            let workers = Workers { rt, count, gate };
+            replay_all(&workers, alloc, source, out)
+        }
     }
 }
 
-/// Replays the script that is left of the source.
-fn replay_all<R: Threads + Sync, S: Source, K: Sink>(
-    rt: &R,
+/// Replays the script that is left of the source, its candidates refined by the workers.
+#[tactic(auto, using(crate::proofs::CauseLemmas::cut_of))]
+fn replay_all<R: Threads + Sync, S: Source, K: Sink, G: Gate + Sync>(
+    workers: &Workers<R, G>,
     alloc: Global,
     source: &mut S,
     out: &mut K,
@@ -149,7 +158,7 @@ fn replay_all<R: Threads + Sync, S: Source, K: Sink>(
         Err(ReadEnd::TooLong) => return Ending::TooLong,
         Err(ReadEnd::OutOfMemory) => return Ending::OutOfMemory,
     };
-    let text = match replayed(rt, alloc, bytes.as_slice()) {
+    let text = match replayed(workers, alloc, bytes.as_slice()) {
         Ok(text) => text,
         Err(Unplayed::Refused) => return Ending::Refused,
         Err(Unplayed::OutOfMemory) => return Ending::OutOfMemory,
@@ -169,7 +178,11 @@ enum Unplayed {
 }
 
 /// The text of a run of the script that the bytes spell.
-fn replayed<R: Threads + Sync>(rt: &R, alloc: Global, bytes: &[u8]) -> Result<Vec<u8>, Unplayed>
+fn replayed<R: Threads + Sync, G: Gate + Sync>(
+    workers: &Workers<R, G>,
+    alloc: Global,
+    bytes: &[u8],
+) -> Result<Vec<u8>, Unplayed>
     requires { length bytes.now ≤ 67108864 }
     ensures text { IfOk result (λ text. IsTextOf bytes.now text.items) }
     ensures refused { IsErrOf result Unplayed.Refused → (fault : ScriptFault) × (script_in bytes.now ≡ Err fault) }
@@ -183,7 +196,7 @@ fn replayed<R: Threads + Sync>(rt: &R, alloc: Global, bytes: &[u8]) -> Result<Ve
         shapes: Relate,
         cells: CellTest,
     };
-    let run = match play(rt, alloc, &judges, &script) {
+    let run = match play(alloc, &judges, workers, &script) {
         Ok(run) => run,
         Err(AllocError) => return Err(Unplayed::OutOfMemory),
     };

@@ -2,6 +2,7 @@ use crate::program::{replay_main, spatial_main};
 use crate::status::Status;
 use crate::words::Words;
 use sg_io::{MemorySink, MemorySource};
+use sg_refine::OpenGate;
 use std::alloc::Global;
 use std::process::Abort;
 use std::test::Fail;
@@ -13,7 +14,7 @@ const FIRST: &[u8] =
 const FIRST_TEXT: &[u8] =
     b"commit 1 session 1 transaction 1\n  inserted\n  keys 1\nrows 1\n  1 POINT (3 4)\n";
 
-const USAGE: &[u8] =
+pub const USAGE: &[u8] =
     b"usage: spatial_cli replay [--workers N] [--labels] | threads [--workers N] [--labels] [--trace] | make SEED ROWS SESSIONS\n";
 
 /// The script of examples/three_sessions.script, and what it prints.
@@ -26,13 +27,27 @@ const SESSIONS_TEXT: &[u8] =
 /// The one word `replay`.
 pub fn replay(alloc: Global) -> Result<Words, Fail> {
     let mut words = Words::new(alloc);
-    words
-        .push(Vec::from_slice(alloc, b"replay")?)
-        .map_err(|_| "no memory for a word")?;
+    add(alloc, &mut words, b"replay")?;
     Ok(words)
 }
 
-fn source(alloc: Global, text: &[u8]) -> Result<MemorySource, Fail> {
+/// The words `replay --workers` and this one.
+pub fn replay_by(alloc: Global, number: &[u8]) -> Result<Words, Fail> {
+    let mut words = replay(alloc)?;
+    add(alloc, &mut words, b"--workers")?;
+    add(alloc, &mut words, number)?;
+    Ok(words)
+}
+
+/// Puts a word last.
+pub fn add(alloc: Global, words: &mut Words, word: &[u8]) -> Result<(), Fail> {
+    words
+        .push(Vec::from_slice(alloc, word)?)
+        .map_err(|_| "no memory for a word")?;
+    Ok(())
+}
+
+pub fn source(alloc: Global, text: &[u8]) -> Result<MemorySource, Fail> {
     Ok(MemorySource::new(Vec::from_slice(alloc, text)?, 100, Vec::new(alloc)))
 }
 
@@ -50,7 +65,15 @@ pub fn prints<R: Abort + Threads + Sync>(
     let mut source = source(alloc, script)?;
     let mut out = sink(alloc)?;
     let mut err = sink(alloc)?;
-    let status = spatial_main(rt, alloc, &replay(alloc)?, &mut source, &mut out, &mut err);
+    let status = spatial_main(
+        rt,
+        alloc,
+        &replay(alloc)?,
+        &mut source,
+        &mut out,
+        &mut err,
+        &OpenGate,
+    );
     assert_eq!(rt; status, Status::Done);
     assert!(rt; out.taken() == text);
     assert!(rt; err.taken().is_empty());
@@ -62,7 +85,15 @@ fn refuses<R: Abort + Threads + Sync>(rt: &R, alloc: Global, script: &[u8]) -> R
     let mut source = source(alloc, script)?;
     let mut out = sink(alloc)?;
     let mut err = sink(alloc)?;
-    let status = replay_main(rt, alloc, &replay(alloc)?, &mut source, &mut out, &mut err);
+    let status = replay_main(
+        rt,
+        alloc,
+        &replay(alloc)?,
+        &mut source,
+        &mut out,
+        &mut err,
+        &OpenGate,
+    );
     assert_eq!(rt; status.number(), 2);
     assert!(rt; out.taken().is_empty());
     assert!(rt; err.taken() == b"script refused\n".as_slice());
@@ -146,13 +177,22 @@ fn tells_faults(rt: HostRuntime) -> Result<(), Fail> {
         &mut failing,
         &mut out,
         &mut err,
+        &OpenGate,
     );
     assert_eq!(rt; status.number(), 3);
     assert!(rt; out.taken().is_empty());
     assert!(rt; err.taken() == b"read fault\n".as_slice());
     let mut first = source(alloc, FIRST)?;
     let mut cut = MemorySink::new(alloc, 10, 65_536, Vec::from_slice(alloc, &[2u32])?)?;
-    let status = replay_main(&rt, alloc, &replay(alloc)?, &mut first, &mut cut, &mut err);
+    let status = replay_main(
+        &rt,
+        alloc,
+        &replay(alloc)?,
+        &mut first,
+        &mut cut,
+        &mut err,
+        &OpenGate,
+    );
     assert_eq!(rt; status.number(), 4);
     assert!(rt; cut.taken() == b"commit 1 s".as_slice());
     assert!(rt; err.taken() == b"read fault\nwrite fault\n".as_slice());
@@ -166,7 +206,7 @@ fn tells_usage(rt: HostRuntime) -> Result<(), Fail> {
     let mut out = sink(alloc)?;
     let mut err = MemorySink::new(alloc, 1_000, 65_536, Vec::new(alloc))?;
     let none = Words::new(alloc);
-    let status = spatial_main(&rt, alloc, &none, &mut first, &mut out, &mut err);
+    let status = spatial_main(&rt, alloc, &none, &mut first, &mut out, &mut err, &OpenGate);
     assert_eq!(rt; status.number(), 1);
     assert!(rt; err.taken() == USAGE);
     let mut twice = replay(alloc)?;
@@ -174,7 +214,9 @@ fn tells_usage(rt: HostRuntime) -> Result<(), Fail> {
     assert_eq!(rt; twice.len(), 2);
     assert!(rt; twice.at(1) == Some(b"replay".as_slice()));
     assert!(rt; twice.at(2).is_none());
-    let status = replay_main(&rt, alloc, &twice, &mut first, &mut out, &mut err);
+    let status = replay_main(
+        &rt, alloc, &twice, &mut first, &mut out, &mut err, &OpenGate,
+    );
     assert_eq!(rt; status, Status::Usage);
     assert!(rt; out.taken().is_empty());
     Ok(())

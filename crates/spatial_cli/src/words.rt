@@ -1,7 +1,8 @@
-ghost use Rattle.std.specs.Prelude.{◌≡◌, [], ◌∷◌, ◌++◌, length, slice_get, map, OnOk, OnErr, IfErr};
+ghost use Rattle.std.specs.Prelude.{◌≡◌, ◌≤◌, [], ◌∷◌, ◌++◌, length, slice_get, map, codes, bytes_eq, IfSome, OnOk, OnErr, IfErr};
 ghost use Rattle.std.specs.Option.{option_copied};
-ghost use Rattle.spatial_cli.specs.Words.{form_of};
+ghost use Rattle.spatial_cli.specs.Words.{IsForm, form_of, workers_of};
 
+use crate::numbers::number_in;
 use sg_shape::Back;
 use std::alloc::Global;
 use std::marker::Model;
@@ -23,8 +24,8 @@ impl Model for Words {
 /// What the words ask for.
 #[derive(Clone, Copy, Debug, PartialEq, Eq)]
 pub enum Form {
-    /// Read a script, play it, and print what came of it.
-    Replay,
+    /// Read a script, play it, and print what came of it. Candidates are refined by 1 to 64 workers.
+    Replay { workers: u32 },
 }
 
 impl Words {
@@ -68,11 +69,40 @@ impl Words {
 
     /// What the words ask for: `None` where they have no form.
     pub fn form(&self) -> Option<Form>
-        ensures { result ≡ form_of self.now }
+        ensures form { result ≡ form_of self.now }
+        ensures within { IfSome result IsForm }
     {
         match self.words.as_slice() {
-            [word] if word.as_slice() == b"replay".as_slice() => Some(Form::Replay),
+            [command] if is_replay(command) => Some(Form::Replay { workers: 1 }),
+            [command, option, number] if is_replay(command) && is_workers(option) => {
+                let workers = workers_of(number_in(number))?;
+                Some(Form::Replay { workers })
+            }
             _ => None,
         }
+    }
+}
+
+fn is_replay(word: &[u8]) -> bool
+    ensures { result ≡ bytes_eq word.now (codes "replay") }
+{
+    word == b"replay".as_slice()
+}
+
+fn is_workers(word: &[u8]) -> bool
+    ensures { result ≡ bytes_eq word.now (codes "--workers") }
+{
+    word == b"--workers".as_slice()
+}
+
+/// As many workers as the number says, where there are from 1 to 64.
+fn workers_of(number: Option<u128>) -> Option<u32>
+    ensures count { result ≡ workers_of number }
+    ensures some { IfSome result (λ n. 1 ≤ n) }
+    ensures few { IfSome result (λ n. n ≤ 64) }
+{
+    match number {
+        Some(number @ 1..=64) => Some(number as u32),
+        _ => None,
     }
 }

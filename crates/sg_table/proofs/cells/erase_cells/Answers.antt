@@ -1,6 +1,6 @@
 use Rattle.std.proofs.Common.{◌∙◌, ap, arith}
 use Rattle.std.specs.Map.{keys_of}
-use Rattle.sg_table.proofs.Rising.{keys_changed}
+use Rattle.sg_stores.proofs.Rising.{keys_changed}
 use Rattle.sg_table.proofs.Rewriting.{erased_fewer, erased_next}
 use Rattle.sg_table.proofs.cells.erase_cells.Goals as goal
 

@@ -1,7 +1,7 @@
 use Rattle.std.proofs.Common.{◌≡◌, ◌<◌, ◌+◌, ◌∙◌, ap, subst, arith, ℕ, suc, List, length, take, get_or}
 use Rattle.std.proofs.lemmas.List.{get_or_default}
 use Rattle.sg_cells.specs.Tess.{Entry}
-use Rattle.sg_scan.specs.Agreement.{mark_at}
+use Rattle.sg_stores.specs.Agreement.{mark_at}
 use Rattle.sg_table.specs.Stores.{AreCellsChanged}
 use Rattle.sg_table.proofs.Rewriting.{put_first, put_next}
 use Rattle.sg_table.proofs.cells.put_cells.Goals as goal

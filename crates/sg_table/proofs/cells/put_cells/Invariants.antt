@@ -1,5 +1,5 @@
 use Rattle.std.proofs.Common.{◌+◌, ◌≤◌, length, take}
-use Rattle.sg_scan.specs.Agreement.{mark_at}
+use Rattle.sg_stores.specs.Agreement.{mark_at}
 use Rattle.sg_table.specs.Stores.{AreCellsChanged}
 use Rattle.sg_table.proofs.cells.put_cells.Given as goal
 

@@ -1,4 +1,4 @@
-use Rattle.sg_scan.specs.Agreement.{mark_at}
+use Rattle.sg_stores.specs.Agreement.{mark_at}
 use Rattle.sg_table.proofs.Rewriting.{rewritten}
 use Rattle.sg_table.proofs.cells.rewrite_cells.Goals as goal
 

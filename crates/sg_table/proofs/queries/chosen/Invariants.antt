@@ -1,5 +1,5 @@
 use Rattle.std.proofs.Common.{◌≡◌, take}
-use Rattle.sg_table.specs.Pending.{chosen}
+use Rattle.sg_trace.specs.Pending.{chosen}
 use Rattle.sg_table.proofs.queries.chosen.Given as goal
 
 -- the keys so far were chosen

@@ -5,7 +5,7 @@ use Rattle.spatial_cli.proofs.CauseLemmas.{refused}
 use Rattle.spatial_cli.proofs.program.replay_main.Goals as goal
 
 pub returns-clause-refuses : goal.returns-clause-refuses
-returns-clause-refuses g c = λ form holds calm.
+returns-clause-refuses g c = λ workers form holds calm.
     subst (λ (s : Status). (s ≡ Script) ⊎ (s ≡ OutOfMemory)) (sym c.status.ensures)
     (refused c.replay-end.result _ _ _ _ _ _ _ c.replay-end.ensures.done c.replay-end.ensures.usage.0
-    c.replay-end.ensures.read c.replay-end.ensures.cut form holds calm)
+    c.replay-end.ensures.read c.replay-end.ensures.cut workers form holds calm)

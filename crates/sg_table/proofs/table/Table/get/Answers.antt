@@ -1,5 +1,5 @@
 use Rattle.std.proofs.Common.{◌∙◌, sym, ap, Some}
-use Rattle.sg_table.proofs.Picked.{shape_at-seen}
+use Rattle.sg_stores.proofs.Picked.{shape_at-seen}
 use Rattle.sg_table.proofs.table.Table.get.Goals as goal
 
 pub returns-in-None : goal.returns-in-None

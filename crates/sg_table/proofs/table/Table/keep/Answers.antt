@@ -1,6 +1,6 @@
 use Rattle.sg_versions.specs.declared.version.End.TheVariants.{Keep}
-use Rattle.sg_scan.specs.Agreement.{seen_rows}
-use Rattle.sg_table.proofs.Picked.{shape_at-seen}
+use Rattle.sg_stores.specs.Agreement.{seen_rows}
+use Rattle.sg_stores.proofs.Picked.{shape_at-seen}
 use Rattle.sg_table.proofs.Endings.{ended_table, seen_as, committed_as, seen_are}
 use Rattle.sg_table.proofs.table.Table.keep.Goals as goal
 

@@ -1,7 +1,7 @@
 use Rattle.std.proofs.Common.{refl, sym, subst, take, ◌+◌, ◌∙◌, slice_index_or, ℕ}
 use Rattle.sg_plain.specs.Keys.{IsRising}
 use Rattle.sg_plain.specs.Rows.{Rows}
-use Rattle.sg_table.specs.Pending.{ArePending}
+use Rattle.sg_trace.specs.Pending.{ArePending}
 use Rattle.sg_table.proofs.Waiting.{pending_below, pending_next}
 use Rattle.sg_table.proofs.table.Table.pending.Goals as goal
 

@@ -1,5 +1,5 @@
 use Rattle.std.proofs.Common.{◌≡◌, take}
-use Rattle.sg_table.specs.Pending.{ArePending}
+use Rattle.sg_trace.specs.Pending.{ArePending}
 use Rattle.sg_table.proofs.table.Table.pending.Given as goal
 
 -- the job is of the query, and has the rows that are left to be tested so far

@@ -3,8 +3,8 @@ use Rattle.std.specs.Ordering.{nat_cmp}
 use Rattle.sg_shape.specs.declared.shapes.Shape.{Shape}
 use Rattle.sg_plain.specs.Rows as plain
 use Rattle.sg_rows.specs.Table.{committed_rows}
-use Rattle.sg_scan.specs.Agreement.{seen_rows}
-use Rattle.sg_table.specs.Stores.{IsWritten}
+use Rattle.sg_stores.specs.Agreement.{seen_rows}
+use Rattle.sg_stores.specs.Writes.{IsWritten}
 use Rattle.sg_table.proofs.Changes.{reserved_table, changed_committed, put_seen}
 use Rattle.sg_table.proofs.table.Table.put.Goals as goal
 

@@ -1,4 +1,4 @@
-use Rattle.sg_table.proofs.Picked.{committed_are_rows, seen_are_rows}
+use Rattle.sg_stores.proofs.Picked.{committed_are_rows, seen_are_rows}
 use Rattle.sg_table.proofs.table.Table.settings.Goals as goal
 
 pub returns-clause-committed : goal.returns-clause-committed

@@ -1,7 +1,7 @@
 use Rattle.std.proofs.Common.{◌≡◌, ◌∙◌, sym}
 use Rattle.std.specs.Option.{option_copied}
 use Rattle.sg_plain.specs.Rows.{shape_at}
-use Rattle.sg_table.proofs.Picked.{shape_at-seen}
+use Rattle.sg_stores.proofs.Picked.{shape_at-seen}
 use Rattle.sg_table.proofs.Satisfying.{seen_sound}
 use Rattle.sg_table.proofs.table.Table.shape_of.Goals as goal
 

@@ -1,6 +1,6 @@
 use Rattle.sg_versions.specs.declared.version.End.TheVariants.{Undo}
 use Rattle.sg_rows.specs.Table.{committed_rows}
-use Rattle.sg_table.proofs.Picked.{shape_at-committed}
+use Rattle.sg_stores.proofs.Picked.{shape_at-committed}
 use Rattle.sg_table.proofs.Endings.{ended_table, seen_as, committed_as, committed_are}
 use Rattle.sg_table.proofs.table.Table.undo.Goals as goal
 

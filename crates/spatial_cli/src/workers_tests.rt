@@ -1,0 +1,149 @@
+use crate::program::replay_main;
+use crate::status::Status;
+use crate::tests::{USAGE, add, replay, replay_by, sink, source};
+use crate::words::{Form, Words};
+use sg_refine::{Gate, OpenGate};
+use std::alloc::Global;
+use std::process::Abort;
+use std::sync::atomic::{AtomicU64, Ordering};
+use std::test::Fail;
+use std::thread::Threads;
+
+/// Holds the first pass until a second one comes, for a number of looks at most.
+#[derive(Drop)]
+struct Meeting {
+    passes: AtomicU64,
+    met: AtomicU64,
+}
+
+impl Gate for Meeting {
+    fn pass(&self, _piece: u32) {
+        if self.passes.fetch_add(1, Ordering::SeqCst) > 0 {
+            return;
+        }
+        for _ in 0..1_000_000_000u64 {
+            if self.passes.load(Ordering::SeqCst) > 1 {
+                self.met.store(1, Ordering::SeqCst);
+                return;
+            }
+        }
+    }
+}
+
+#[test]
+fn gate_two_workers(rt: HostRuntime) -> Result<(), Fail> {
+    let alloc = rt.alloc();
+    let gate = Meeting {
+        passes: AtomicU64::new(0),
+        met: AtomicU64::new(0),
+    };
+    let mut script = source(
+        alloc,
+        b"row 1 POINT (1 1)\nrow 2 POINT (2 2)\nsession 1\nbegin\nselect intersects POINT (2 2)\ncommit\n",
+    )?;
+    let mut out = sink(alloc)?;
+    let mut err = sink(alloc)?;
+    let words = replay_by(alloc, b"2")?;
+    let status = replay_main(&rt, alloc, &words, &mut script, &mut out, &mut err, &gate);
+    assert_eq!(rt; status, Status::Done);
+    assert_eq!(rt; gate.met.load(Ordering::SeqCst), 1);
+    assert_eq!(rt; gate.passes.load(Ordering::SeqCst), 2);
+    assert!(rt;
+        out.taken()
+            == b"commit 1 session 1 transaction 1\n  keys 2\nrows 2\n  1 POINT (1 1)\n  2 POINT (2 2)\n".as_slice()
+    );
+    Ok(())
+}
+
+/// A city of blocks, 20 beside each other: a line for each, from the first to the last, that begins with these words.
+fn put_blocks(alloc: Global, text: &mut Vec<u8>, words: &str, last: u32) -> Result<(), Fail> {
+    for key in 1..=last {
+        let left = 50 * ((key - 1) % 20) + 5;
+        let low = 40 * ((key - 1) / 20 % 10) + 5;
+        let (right, high) = (left + 40, low + 30);
+        let line = format!(in alloc;
+            "{words}{key} POLYGON (({left} {low}, {right} {low}, {right} {high}, {left} {high}, {left} {low}))\n"
+        )?;
+        text.extend_from_slice(line.as_bytes())?;
+    }
+    Ok(())
+}
+
+/// The script of a city map, and what it prints, by so many workers.
+fn prints_city<R: Abort + Threads + Sync>(
+    rt: &R,
+    alloc: Global,
+    words: &Words,
+) -> Result<(), Fail> {
+    let mut script = Vec::from_slice(alloc, b"grid 0 0 1000 400\n")?;
+    put_blocks(alloc, &mut script, "row ", 200)?;
+    script.extend_from_slice(
+        b"session 1\nbegin\nselect intersects POLYGON ((0 0, 120 0, 120 60, 0 60, 0 0))\ncommit\nsession 2\nbegin\ninsert 201 POINT (500 200)\ncommit\nsession 3\nbegin\nselect distance <= 10 POINT (50 20)\ndelete 200\ncommit\n",
+    )?;
+    let mut text = Vec::from_slice(
+        alloc,
+        b"commit 1 session 1 transaction 1\n  keys 1 2 3 21 22 23\ncommit 2 session 2 transaction 1\n  inserted\ncommit 3 session 3 transaction 1\n  keys 1 2\n  done\nrows 200\n",
+    )?;
+    put_blocks(alloc, &mut text, "  ", 199)?;
+    text.extend_from_slice(b"  201 POINT (500 200)\n")?;
+    let mut city = source(alloc, script.as_slice())?;
+    let mut out = sink(alloc)?;
+    let mut err = sink(alloc)?;
+    let status = replay_main(rt, alloc, words, &mut city, &mut out, &mut err, &OpenGate);
+    assert_eq!(rt; status, Status::Done);
+    assert!(rt; out.taken() == text.as_slice());
+    Ok(())
+}
+
+#[test]
+fn a_city_by_one_worker(rt: HostRuntime) -> Result<(), Fail> {
+    prints_city(&rt, rt.alloc(), &replay(rt.alloc())?)
+}
+
+#[test]
+fn a_city_by_four_workers(rt: HostRuntime) -> Result<(), Fail> {
+    prints_city(&rt, rt.alloc(), &replay_by(rt.alloc(), b"4")?)
+}
+
+#[test]
+fn numbers_of_workers(rt: HostRuntime) -> Result<(), Fail> {
+    let alloc = rt.alloc();
+    assert!(rt; replay(alloc)?.form() == Some(Form::Replay { workers: 1 }));
+    assert!(rt; replay_by(alloc, b"64")?.form() == Some(Form::Replay { workers: 64 }));
+    assert!(rt;
+        replay_by(alloc, b"00000000000000000001")?.form() == Some(Form::Replay { workers: 1 })
+    );
+    assert!(rt; replay_by(alloc, b"000000000000000000001")?.form().is_none());
+    assert!(rt; replay_by(alloc, b"99999999999999999999")?.form().is_none());
+    assert!(rt; replay_by(alloc, b"-1")?.form().is_none());
+    assert!(rt; replay_by(alloc, b"")?.form().is_none());
+    let mut twice = replay_by(alloc, b"2")?;
+    add(alloc, &mut twice, b"--workers")?;
+    add(alloc, &mut twice, b"2")?;
+    assert!(rt; twice.form().is_none());
+    Ok(())
+}
+
+/// These words have no form: the usage line is told, and nothing is read.
+fn tells_usage<R: Abort + Threads + Sync>(
+    rt: &R,
+    alloc: Global,
+    words: &Words,
+) -> Result<(), Fail> {
+    let mut script = source(alloc, b"session 1\n")?;
+    let mut out = sink(alloc)?;
+    let mut err = sink(alloc)?;
+    let status = replay_main(rt, alloc, words, &mut script, &mut out, &mut err, &OpenGate);
+    assert_eq!(rt; status.number(), 1);
+    assert!(rt; out.taken().is_empty());
+    assert!(rt; err.taken() == USAGE);
+    Ok(())
+}
+
+#[test]
+fn refuses_other_numbers(rt: HostRuntime) -> Result<(), Fail> {
+    let alloc = rt.alloc();
+    tells_usage(&rt, alloc, &replay_by(alloc, b"0")?)?;
+    tells_usage(&rt, alloc, &replay_by(alloc, b"65")?)?;
+    tells_usage(&rt, alloc, &replay_by(alloc, b"+5")?)
+}
