@@ -1,3 +1,4 @@
+pub mod Places
 pub mod Moving
 pub mod Held
 pub mod MovedKeys
@@ -5,4 +6,3 @@ pub mod Firsts
 pub mod Written
 pub mod Writing
 pub mod Finishing
-pub mod Freed
