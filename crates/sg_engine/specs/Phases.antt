@@ -1,0 +1,125 @@
+-- What an engine keeps of a session whose statement is open, as far as the statement has come.
+use Rattle.std.specs.Prelude.{◌≡◌, ℕ, suc, ◌≤◌, ◌-◌, cond, List, [], ◌∷◌, length, eqb, slice_get, Option, Some, None, IfSome}
+use Rattle.sg_cells.specs.declared.keys.Key.{Key}
+use Rattle.sg_locks.specs.Grants.{Grant}
+use Rattle.sg_plain.specs.declared.statements.Query.{Query}
+use Rattle.sg_plain.specs.declared.statements.Statement.{Statement}
+use Rattle.sg_plain.specs.declared.statements.Statement.TheVariants.{Insert, Update, Delete, Get, Select, Plan, Filter, DeleteWhere}
+use Rattle.sg_plain.specs.declared.statements.Answer.{Answer}
+use Rattle.sg_plain.specs.declared.statements.Answer.TheVariants as answer
+use Rattle.sg_plain.specs.Sat.{IsSoundStatement}
+use Rattle.sg_refine.specs.Jobs.{Job, AreKeysOf}
+use Rattle.sg_rows.specs.Table.{TableRow}
+use Rattle.sg_cellrows.specs.CellTable.{CellRow}
+use Rattle.sg_trace.specs.Needs.{Held, Selects}
+use Rattle.sg_trace.specs.Pending.{chosen}
+use Rattle.sg_trace.specs.Replies.{Reply, meeting}
+use Rattle.sg_trace.specs.Traces.{Stage, Event, Begin, Ask, Take, Put, Wait, Victim, Answered, Commit, Rollback, state, view}
+use Rattle.sg_trace.specs.Legal.{cost}
+use Rattle.sg_scan.specs.declared.needs.Reader.{Reader}
+use Rattle.sg_scan.specs.declared.scans.Found.{Found}
+use Rattle.sg_scan.specs.Cursors.{IsReaderFor, IsPassed}
+use Rattle.sg_writes.specs.declared.changes.Change.{Change}
+use Rattle.sg_writes.specs.Changes.{IsChangeFor, IsBehindHeld}
+use Rattle.sg_laws.specs.Reading.{IsReading, IsGuarded}
+use Rattle.sg_engine.specs.declared.shared.Work.{Work}
+use Rattle.sg_engine.specs.declared.shared.Work.TheVariants as work
+use Rattle.sg_engine.specs.declared.shared.Pending.{Pending}
+use Rattle.sg_engine.specs.declared.shared.Running.{Running}
+use Rattle.sg_engine.specs.declared.shared.Seat.{Seat}
+
+-- the key and the mode of the last wait of a session, whether it stands or not
+abbrev pub last_wish : List Event → ℕ → Option Held
+last_wish [] s = None
+last_wish (Wait u k m b ∷ es) s = cond (eqb s u) (Some (k, m)) (last_wish es s)
+last_wish (Begin u t ∷ es) s = last_wish es s
+last_wish (Ask u n st ∷ es) s = last_wish es s
+last_wish (Take u k m ∷ es) s = last_wish es s
+last_wish (Put u k m ∷ es) s = last_wish es s
+last_wish (Victim u c ∷ es) s = last_wish es s
+last_wish (Answered u a ∷ es) s = last_wish es s
+last_wish (Commit u p ∷ es) s = last_wish es s
+last_wish (Rollback u c ∷ es) s = last_wish es s
+
+-- what a search answers, where these of its candidates passed the test
+abbrev pub answer_of : Statement → Found → List ℕ → Option Answer
+answer_of (Select q) found passed = Some (answer.Keys (chosen found.sure passed found.candidates))
+answer_of (Filter s) found passed = Some (answer.Keys (chosen found.sure passed found.candidates))
+answer_of (DeleteWhere q) found passed = Some (answer.Deleted (chosen found.sure passed found.candidates))
+answer_of (Plan q) found passed =
+    Some (answer.Plan (length found.candidates) (length found.sure) (length found.candidates - length found.sure) (chosen found.sure passed found.candidates))
+answer_of (Get k) found passed = None
+answer_of (Insert k s) found passed = None
+answer_of (Update k s) found passed = None
+answer_of (Delete k) found passed = None
+
+-- what a job asks of a statement's candidates
+abbrev pub IsAskedBy : Query → Job → Type 0
+IsAskedBy q job = (job.test ≡ q.test) × (job.query ≡ q.shape)
+
+abbrev pub IsJobOf : Statement → Job → Type 0
+IsJobOf (Select q) job = IsAskedBy q job
+IsJobOf (Plan q) job = IsAskedBy q job
+IsJobOf (Filter s) job = IsAskedBy (meeting s) job
+IsJobOf (DeleteWhere q) job = IsAskedBy q job
+IsJobOf (Get k) job = ⊥
+IsJobOf (Insert k s) job = ⊥
+IsJobOf (Update k s) job = ⊥
+IsJobOf (Delete k) job = ⊥
+
+-- what the session has of the number of its transaction and of its open statement
+pub record IsNameOf (w : Stage) (es : List Event) (s : ℕ) (job : Job) : Type 0 where
+  pub session : job.name.session ≡ s
+  pub transaction : job.name.transaction ≡ ((state w es).of s).begun
+  pub statement : job.name.statement ≡ suc (length ((state w es).of s).done)
+
+-- What a search has found is guarded, and so is the reply, whatever keys the job's result will have.
+pub record IsAwaiting (w : Stage) (es : List Event) (s : ℕ) (st : Statement) (found : Found) (job : Job) : Type 0 where
+  pub name : IsNameOf w es s job
+  pub asks : IsJobOf st job
+  pub guarded : IsGuarded w es s st
+  pub replies : (ks : List ℕ) → AreKeysOf job ks → IfSome (answer_of st found ks) (Reply w.settings (view (state w es) s) st)
+
+-- the result has come
+pub record IsRefined (w : Stage) (es : List Event) (s : ℕ) (st : Statement) (found : Found) (passed : List ℕ) : Type 0 where
+  pub guarded : IsGuarded w es s st
+  pub reply : IfSome (answer_of st found passed) (Reply w.settings (view (state w es) s) st)
+
+module _ (w : Stage) (es : List Event) (table : List TableRow) (index : List CellRow) (grants : List (Grant Key)) (s : ℕ) where
+  -- a change of the statement, with the keys that it selects; what lies behind its place is held
+  pub record IsWriting (st : Statement) (change : Change) : Type 0 where
+    pub change_for : IsChangeFor w.settings st change.selected change
+    pub behind : IsBehindHeld grants s table index change
+    pub selects : Selects (view (state w es) s) st change.selected
+    pub guarded : IsReading st → IsGuarded w es s st
+
+  abbrev pub IsWork : Statement → Work → Type 0
+  IsWork st work.Unread = Unit {0}
+  IsWork st (work.Awaits found job) = IsAwaiting w es s st found job
+  IsWork st (work.Refined found done) = IsRefined w es s st found done.keys
+  IsWork st (work.Writes change) = IsWriting st change
+
+  -- a search of the statement; the needs behind its place are met
+  pub record IsSearching (st : Statement) (reader : Reader) : Type 0 where
+    pub reader_for : IsReaderFor w.settings st reader
+    pub passed : IsPassed grants s table index reader
+
+  -- an open statement, with room to keep it and its answer
+  pub record IsPending (st : Statement) (reader : Option Reader) (it : Work) : Type 0 where
+    pub sound : IsSoundStatement st
+    pub search : IfSome reader (IsSearching st)
+    pub work : IsWork st it
+
+  pub record IsRunning (r : Running) : Type 0 where
+    pub cost : r.cost ≡ cost ((state w es).of s).held
+    pub pending : IfSome r.pending (λ (p : Pending). IsPending p.statement p.reader p.work)
+    pub statement_room : IfSome r.pending (λ (p : Pending). 1 ≤ r.statements.spare)
+    pub answer_room : IfSome r.pending (λ (p : Pending). 1 ≤ r.answers.spare)
+
+  pub record IsSeat (x : Seat) : Type 0 where
+    pub wish : x.wish ≡ last_wish es s
+    pub running : IfSome x.running IsRunning
+
+-- the seats of all sessions, from session 1 on
+abbrev pub AreSeats : Stage → List Event → List TableRow → List CellRow → List (Grant Key) → List Seat → Type 0
+AreSeats w es table index grants seats = (i : ℕ) → IfSome (slice_get seats i) (IsSeat w es table index grants (suc i))
