@@ -9,7 +9,7 @@ use Rattle.sg_modes.specs.Sessions.{IsSession, AreSessions, has_session}
 use Rattle.sg_modes.specs.Priorities.{priority_of}
 use Rattle.sg_modes.specs.Waits as standing
 use Rattle.sg_modes.specs.Waits.{is_waiting, blockers_of, AreWaits, with_wait, waits_after, NoCycle, IsCycleSet}
-use Rattle.sg_modes.specs.WaitLaws.{blockers_of-below, blockers_of-above, blockers_of-with, blockers_of-after}
+use Rattle.sg_modes.proofs.WaitLaws.{blockers_of-below, blockers_of-above, blockers_of-with, blockers_of-after}
 use Rattle.sg_modes.specs.Victims.{IsVictim}
 use Rattle.sg_trace.specs.Keys.{is_write}
 use Rattle.sg_trace.specs.Needs.{Held}

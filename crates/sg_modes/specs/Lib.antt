@@ -1,12 +1,9 @@
 pub mod BoolLaws
 pub mod Modes
 pub mod Priorities
-pub mod PriorityLaws
 pub mod SessionLaws
 pub mod Sessions
-pub mod VictimLaws
 pub mod Victims
-pub mod WaitLaws
 pub mod Waits
 pub mod WordLaws
 pub mod Words

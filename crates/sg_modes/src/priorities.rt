@@ -1,5 +1,5 @@
 ghost use Rattle.std.specs.Prelude.{◌≡◌, ◌==◌, ℕ, pos, if◌then◌else◌};
-ghost use Rattle.sg_modes.specs.Priorities.{IsPriority, priority_of};
+ghost use Rattle.sg_modes.specs.Priorities.{IsPriority, ArePriorities, priority_of};
 
 use crate::numbers::Session;
 use std::marker::Model;
@@ -37,6 +37,7 @@ impl Priorities {
     pub fn of(&self, s: Session) -> i8
         ensures priority { result ≡ priority_of self.now s }
         ensures range { IsPriority result }
+        ensures all { ArePriorities self.now }
     {
         self.by_session[s.index()]
     }

@@ -5,7 +5,7 @@ use mathlib.Core.Logic.{◌⊎◌}
 use Rattle.sg_modes.specs.BoolLaws.{true_or_false, clash, ne-eqb, eqb-false}
 use Rattle.sg_modes.specs.Sessions.{IsSession, has_session}
 use Rattle.sg_modes.specs.Waits.{Wait, is_waiting, blockers_of, RisingWaits, AreWaits, with_wait, waits_after}
-use Rattle.sg_modes.specs.WaitLaws.{RisingWaits-lower, blockers_of-below, blockers_of-above, same_waits, blockers_of-with, RisingWaits-with, blockers_of-after, RisingWaits-after, is_waiting-blockers, blockers-is_waiting}
+use Rattle.sg_modes.proofs.WaitLaws.{RisingWaits-lower, blockers_of-below, blockers_of-above, same_waits, blockers_of-with, RisingWaits-with, blockers_of-after, RisingWaits-after, is_waiting-blockers, blockers-is_waiting}
 use Rattle.sg_waits.specs.Standing.{standing_above, standing, NamesOthers}
 
 -- the blockers of each session fit: there are at most 64, and none names its own

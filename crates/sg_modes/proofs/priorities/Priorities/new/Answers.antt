@@ -1,4 +1,4 @@
-use Rattle.sg_modes.specs.PriorityLaws.{priority_of-zeros, ArePriorities-zeros}
+use Rattle.sg_modes.proofs.PriorityLaws.{priority_of-zeros, ArePriorities-zeros}
 use Rattle.sg_modes.proofs.priorities.Priorities.new.Goals as goal
 
 pub invariant_of-result : goal.invariant_of-result

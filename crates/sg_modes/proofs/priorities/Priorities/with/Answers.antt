@@ -1,6 +1,6 @@
 use Rattle.std.proofs.Common.{arith}
 use Rattle.std.proofs.lemmas.Int.{ints}
-use Rattle.sg_modes.specs.PriorityLaws.{ArePriorities-set}
+use Rattle.sg_modes.proofs.PriorityLaws.{ArePriorities-set}
 use Rattle.sg_modes.proofs.priorities.Priorities.with.Goals as goal
 
 pub invariant_of-self : goal.invariant_of-self

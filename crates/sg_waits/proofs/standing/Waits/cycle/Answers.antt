@@ -4,7 +4,7 @@ use Rattle.sg_modes.specs.Sessions.{has_session, with_session}
 use Rattle.sg_modes.specs.WordLaws.{same_words}
 use Rattle.sg_modes.specs.Words.{word_of}
 use Rattle.sg_modes.specs.Waits.{blockers_of, NoCycle, IsCycleSet}
-use Rattle.sg_modes.specs.WaitLaws.{IsCycleSet-empty, IsCycleSet-none}
+use Rattle.sg_modes.proofs.WaitLaws.{IsCycleSet-empty, IsCycleSet-none}
 use Rattle.sg_waits.proofs.Finds.{few_sessions}
 use Rattle.sg_waits.proofs.Chains.{room, search_first, search_more, search_ends, search_kept, search_ahead}
 use Rattle.sg_waits.proofs.standing.Waits.cycle.Goals as goal

@@ -1,0 +1,3 @@
+pub mod PriorityLaws
+pub mod VictimLaws
+pub mod WaitLaws
