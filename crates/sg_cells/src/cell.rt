@@ -63,7 +63,7 @@ impl Cell {
 
     /// The cell that this one was split from: none exactly for cell 0 and at level 1.
     pub fn parent(&self) -> Option<Cell>
-        ensures { MatchOption result (length self.now ≤ 1) (λ parent. parent ≡ front (length self.now - 1) self.now) }
+        ensures { MatchOption result (length self.now ≤ 1) (λ parent. (2 ≤ length self.now) × (parent ≡ front (length self.now - 1) self.now)) }
     {
         let level = self.level();
         if level <= 1 {
