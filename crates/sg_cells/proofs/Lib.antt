@@ -15,4 +15,5 @@ pub mod Faultless
 pub mod Covered
 pub mod Lawful
 pub mod Grown
+pub mod Comparisons
 pub mod Examples

@@ -6,4 +6,5 @@ pub mod Queries
 pub mod Ranges
 pub mod Laws
 pub mod Lists
+pub mod Orders
 pub mod Claims

@@ -1,4 +1,5 @@
 ghost use Rattle.sg_cells.specs.Claims.{LevelsSplitTheBox, ChildrenSplitTheirCell, EmptyCellsHoldNothing, DescendantsAreAnInterval, IdsAreInOrder, LooksAreRight, CellsStandForShapes, LooksAgree, RangesAreRelated, RangesRise, CommonPointsMakeCandidates, SureOnesShareAPoint, GrownIs};
+ghost use Rattle.sg_cells.specs.Orders.{CellsAreByTheirIds, KeysAreInOrder};
 
 /// Each point of the closed box lies in exactly one cell of each level, and each other point in cell 0; the
 /// children of a cell split its points; a cell with a side of length 0 has none. A cell's descendants are an
@@ -33,4 +34,12 @@ pub fn range_laws()
 /// and cut at the limits of coordinates. The call does nothing.
 pub fn query_laws()
     ensures grown { GrownIs }
+{}
+
+/// Comparisons of two cells answer by their ids; those of two keys put all rows by their keys, then the end of the
+/// table, then the cells of rows by the cell and for one cell by the row's key, and then the end of the index. The
+/// call does nothing.
+pub fn order_laws()
+    ensures cells { CellsAreByTheirIds }
+    ensures keys { KeysAreInOrder }
 {}

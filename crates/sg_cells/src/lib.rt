@@ -25,7 +25,7 @@ pub use density::Density;
 pub use faults::GridFault;
 pub use grid::Grid;
 pub use keys::Key;
-pub use laws::{cell_laws, query_laws, range_laws, tess_laws};
+pub use laws::{cell_laws, order_laws, query_laws, range_laws, tess_laws};
 pub use lists::CellList;
 pub use marks::Mark;
 pub use settings::Settings;

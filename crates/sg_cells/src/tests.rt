@@ -119,6 +119,7 @@ fn order_of_cells(rt: HostRuntime) -> Result<(), Fail> {
     tess_laws();
     range_laws();
     query_laws();
+    order_laws();
     let grid = low_grid(80, 80)?;
     let first = grid.child(None, 0);
     let below = grid.child(Some(first), 15);
