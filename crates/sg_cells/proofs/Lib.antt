@@ -15,5 +15,6 @@ pub mod Faultless
 pub mod Covered
 pub mod Lawful
 pub mod Grown
+pub mod Staying
 pub mod Comparisons
 pub mod Examples

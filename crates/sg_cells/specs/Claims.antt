@@ -1,5 +1,5 @@
 -- The laws of cells, of shapes' cells and of ranges, for ids of n levels where n is at hand and of four else.
-use Rattle.std.specs.Prelude.{◌≡◌, ◌↔◌, ℕ, suc, ◌<◌, true, false, ◌&&◌, ltb, leb, List}
+use Rattle.std.specs.Prelude.{◌≡◌, ◌↔◌, ℕ, suc, ◌<◌, ◌≤◌, max, true, false, ◌&&◌, ltb, leb, List, [], length}
 use Rattle.sg_shape.specs.declared.shapes.Shape.{Shape}
 use Rattle.sg_shape.specs.Plane.{Point, Parts}
 use Rattle.sg_shape.specs.Shapes.{parts_of}
@@ -8,10 +8,11 @@ use Rattle.sg_shape.specs.Sound.{IsSound}
 use Rattle.sg_shape.specs.Grown.{IsGrown}
 use Rattle.sg_cells.specs.Cells.{Grid, Cell, IsGrid, IsCode, whole, cell_holds, contains, less, id_of, last_of}
 use Rattle.sg_cells.specs.Grids.{HasNoBox}
-use Rattle.sg_cells.specs.Tess.{Entry, Look, Sees, look_at, tess}
+use Rattle.sg_cells.specs.declared.marks.Mark.TheVariants.{Part}
+use Rattle.sg_cells.specs.Tess.{Entry, Look, Sees, look_at, kids, tess}
 use Rattle.sg_cells.specs.Queries.{grown}
 use Rattle.sg_cells.specs.Ranges.{ranges, in_pairs, related_any, is_candidate, is_sure}
-use Rattle.sg_cells.specs.Laws.{ind, hits, children_of, level, IsDeep, AllCodes, Spread, Steps, Stands, Common}
+use Rattle.sg_cells.specs.Laws.{ind, hits, children_of, level, Has, IsDeep, AllCodes, Spread, inner, StaysForRoom, Steps, Stands, Common}
 
 -- ---- cells
 -- of the cells of a level one holds each point of the whole box, and none holds another point
@@ -41,6 +42,14 @@ CellsStandForShapes = (g : Grid) (k : Parts) (j : Look) (limit : ℕ) → IsGrid
 
 abbrev pub LooksAgree : Type 0
 LooksAgree = (g : Grid) (k : Parts) (i j : Look) (limit : ℕ) → Sees k i → Sees k j → tess g i limit ≡ tess g j limit
+
+-- but for cell 0 they are no more than the limit, or than the cells of level 1 that the shape meets
+abbrev pub CountsAreWithinTheLimit : Type 0
+CountsAreWithinTheLimit = (g : Grid) (j : Look) (limit : ℕ) → length (inner (tess g j limit)) ≤ max limit (length (kids g j []))
+
+-- a cell above the last level that isn't covered stays only for want of room
+abbrev pub CellsStayForWantOfRoom : Type 0
+CellsStayForWantOfRoom = (g : Grid) (j : Look) (limit : ℕ) (e : Entry) → Has (tess g j limit) e → IsDeep e.0 → e.1 ≡ Part → length e.0 < length g.sides → StaysForRoom g j limit e
 
 -- ---- ranges
 abbrev pub RangesAreRelated : Type 0

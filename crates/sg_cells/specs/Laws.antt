@@ -1,11 +1,11 @@
 -- The laws of cells over points.
-use Rattle.std.specs.Prelude.{◌≡◌, ◌⊎◌, ℕ, zero, suc, ◌+◌, ◌≤◌, Bool, true, cond, List, [], ◌∷◌, ◌++◌}
+use Rattle.std.specs.Prelude.{◌≡◌, ◌⊎◌, ℕ, zero, suc, ◌+◌, ◌-◌, ◌≤◌, ◌<◌, Bool, true, cond, ltb, List, [], ◌∷◌, ◌++◌, length, filter}
 use Rattle.sg_shape.specs.Plane.{Point, Parts}
 use Rattle.sg_shape.specs.Boxes.{in_box, has_point}
 use Rattle.sg_hilbert.specs.Curve.{four_to}
 use Rattle.sg_cells.specs.Cells.{Grid, Cell, IsPath, IsCode, box_of, cell_holds, split_of, id_of, last_of, filled}
 use Rattle.sg_cells.specs.declared.marks.Mark.TheVariants.{Cover, Part}
-use Rattle.sg_cells.specs.Tess.{Look, Entry, children}
+use Rattle.sg_cells.specs.Tess.{Look, Entry, children, kids, round, rounds}
 use Rattle.sg_cells.specs.Ranges.{cells_of}
 
 abbrev pub ind : Bool → ℕ
@@ -70,6 +70,18 @@ pub record Stands (n : ℕ) (g : Grid) (k : Parts) (es : List Entry) : Type 0 wh
   pub paths : (e : Entry) → Has es e → IsPath g.sides e.0
   -- ids rise, and none is an ancestor of another
   pub apart : Spread n 0 (filled n + n) (cells_of es)
+
+-- the cells of a list but cell 0
+abbrev pub inner : List Entry → List Entry
+inner es = filter (λ e. ltb 0 (length e.0)) es
+
+-- A cell stays for want of room. The round of its level comes to it with the cells before it as this round has left them
+-- and those behind it as the round found them; its children in its place would make more cells than the limit.
+pub record StaysForRoom (g : Grid) (j : Look) (limit : ℕ) (e : Entry) : Type 0 where
+  pub before : List Entry
+  pub behind : List Entry
+  pub found : rounds g j limit 1 (length e.0 - 1) (kids g j []) ≡ before ++ e ∷ behind
+  pub past : limit < length (round g j limit (length e.0) (length (before ++ e ∷ behind)) before) + length (kids g j e.0) + length behind
 
 -- pairs from lo on that rise and don't overlap
 abbrev pub Steps : ℕ → List (ℕ × ℕ) → Type 0

@@ -1,4 +1,4 @@
-ghost use Rattle.sg_cells.specs.Claims.{LevelsSplitTheBox, ChildrenSplitTheirCell, EmptyCellsHoldNothing, DescendantsAreAnInterval, IdsAreInOrder, LooksAreRight, CellsStandForShapes, LooksAgree, RangesAreRelated, RangesRise, CommonPointsMakeCandidates, SureOnesShareAPoint, GrownIs};
+ghost use Rattle.sg_cells.specs.Claims.{LevelsSplitTheBox, ChildrenSplitTheirCell, EmptyCellsHoldNothing, DescendantsAreAnInterval, IdsAreInOrder, LooksAreRight, CellsStandForShapes, LooksAgree, CountsAreWithinTheLimit, CellsStayForWantOfRoom, RangesAreRelated, RangesRise, CommonPointsMakeCandidates, SureOnesShareAPoint, GrownIs};
 ghost use Rattle.sg_cells.specs.Orders.{CellsAreByTheirIds, KeysAreInOrder};
 
 /// Each point of the closed box lies in exactly one cell of each level, and each other point in cell 0; the
@@ -13,11 +13,15 @@ pub fn cell_laws()
 {}
 
 /// The cells of a shape hold each of its points once, each has one of them, and a cell other than cell 0 is
-/// marked as covered exactly where it is. It matters not who looks at the shape. The call does nothing.
+/// marked as covered exactly where it is. It matters not who looks at the shape. But for cell 0 they are no more
+/// than the limit, or than the cells of level 1 that the shape meets; and a cell above the last level that isn't
+/// covered stays only where its children would have made more than the limit. The call does nothing.
 pub fn tess_laws()
     ensures looks { LooksAreRight }
     ensures stands { CellsStandForShapes }
     ensures agree { LooksAgree }
+    ensures counts { CountsAreWithinTheLimit }
+    ensures room { CellsStayForWantOfRoom }
 {}
 
 /// A cell is in a range of a query exactly where it is one of the query's cells, an ancestor or a descendant of
