@@ -60,6 +60,18 @@ pub put_writes : (b : Bool) → is_write (cond b RangeXX X) ≡ true
 put_writes true = refl
 put_writes false = refl
 
+-- nobody holds a key that isn't present, so nobody is in the way of it
+module _ (w : Stage) (z : State) (ok : Good w z) (k : Key) (absent : IsPresent w.settings z k → ⊥) where
+  pub absent_unheld : (test : Mode → Bool) (u : ℕ) → holds_by test (z.of u).held k ≡ false
+  absent_unheld test u = by_test (holds_by test (z.of u).held k) refl
+    where
+      by_test : (b : Bool) → holds_by test (z.of u).held k ≡ b → b ≡ false
+      by_test true e = let h = held_by test (z.of u).held k e in absurd (absent (ok.sound.rooted u k h.0 h.2))
+      by_test false e = refl
+
+  pub absent_free : (s : ℕ) (m : Mode) → conflict z.of s k m ≡ []
+  absent_free s m = none_pass (blocks z.of s k m) all_sessions (λ u. ap (λ b. not (eqb u s) && b) (absent_unheld (λ held. not (is_compatible held m)) u) ∙ and_none (not (eqb u s)))
+
 module _ (w : Stage) (z : State) (ok : Good w z) (s : ℕ) (session : IsSession s) (table : List TableRow) (index : List CellRow) (grants : List (Grant Key)) (t : Ties w.settings z table index grants)
     (st : Statement) (js : List ℕ) (selects : Selects (view z s) st js) (keys_are : store_keys table index ≡ present_keys w z) (seen_are : seen_rows s table ≡ view z s) where
   abbrev reads : List Need
@@ -100,21 +112,6 @@ module _ (w : Stage) (z : State) (ok : Good w z) (s : ℕ) (session : IsSession 
 
       pub new_coded : IsCoded k
       new_coded = coded_key k new_ok.2
-
-      -- nobody holds it, so it is granted, and nobody is in the way
-      new_unheld : (test : Mode → Bool) (u : ℕ) → holds_by test (z.of u).held k ≡ false
-      new_unheld test u = by_test (holds_by test (z.of u).held k) refl
-        where
-          by_test : (b : Bool) → holds_by test (z.of u).held k ≡ b → b ≡ false
-          by_test true e = let h = held_by test (z.of u).held k e in absurd (new_absent (ok.sound.rooted u k h.0 h.2))
-          by_test false e = refl
-
-      pub new_ungranted : has_grant key_cmp grants s k m ≡ false
-      new_ungranted = t.held s session k new_coded m ∙ new_unheld (is_same_mode m) s
-
-      pub new_free : conflict z.of s k m ≡ []
-      new_free =
-          none_pass (blocks z.of s k m) all_sessions (λ u. ap (λ b. not (eqb u s) && b) (new_unheld (λ held. not (is_compatible held m)) u) ∙ and_none (not (eqb u s)))
 
       pub next_is_next : next ≡ next_key (present_keys w z) k
       next_is_next = first.put.0 ∙ ap (λ ks. next_key ks k) keys_are

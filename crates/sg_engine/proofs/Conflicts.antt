@@ -38,7 +38,7 @@ same_test false true f g = g refl
 same_test false false f g = refl
 
 -- ---- modes
-same_is : (m n : Mode) → is_same_mode m n ≡ true → m ≡ n
+pub same_is : (m n : Mode) → is_same_mode m n ≡ true → m ≡ n
 same_is S S h = refl
 same_is S U h = absurd (cc)
 same_is S X h = absurd (cc)
@@ -98,7 +98,7 @@ abbrev Passing : (Mode → Bool) → (Mode → Bool) → Type 0
 Passing p holds = (m : Mode) × (p m ≡ true) × (holds m ≡ true)
 
 module _ (p : Mode → Bool) (k : Key) where
-  held_some : (hs : List Held) → holds_by p hs k ≡ true → Passing p (λ m. holds_by (is_same_mode m) hs k)
+  pub held_some : (hs : List Held) → holds_by p hs k ≡ true → Passing p (λ m. holds_by (is_same_mode m) hs k)
   held_some [] h = absurd (cc)
   held_some (g ∷ gs) h =
       elim (or_cases (same_key g.0 k && p g.1) (holds_by p gs k) h) [
@@ -108,7 +108,7 @@ module _ (p : Mode → Bool) (k : Key) where
         | inr b ↦ let i = held_some gs b in (i.0, i.1, or_right (same_key g.0 k && is_same_mode i.0 g.1) (holds_by (is_same_mode i.0) gs k) i.2)
       ]
 
-  held_back : (hs : List Held) (m : Mode) → p m ≡ true → holds_by (is_same_mode m) hs k ≡ true → holds_by p hs k ≡ true
+  pub held_back : (hs : List Held) (m : Mode) → p m ≡ true → holds_by (is_same_mode m) hs k ≡ true → holds_by p hs k ≡ true
   held_back [] m e h = absurd (cc)
   held_back (g ∷ gs) m e h =
       elim (or_cases (same_key g.0 k && is_same_mode m g.1) (holds_by (is_same_mode m) gs k) h) [
@@ -132,7 +132,7 @@ module _ (p : Mode → Bool) (k : Key) where
         let a = parts (eqb n g.session) (is_eq (key_cmp k g.key) && q g.mode) h in
         (parts (is_eq (key_cmp k g.key)) (q g.mode) a.1).1
 
-    grant_some : (gs : List (Grant Key)) → holds_where p gs n k ≡ true → Passing p (has_grant key_cmp gs n k)
+    pub grant_some : (gs : List (Grant Key)) → holds_where p gs n k ≡ true → Passing p (has_grant key_cmp gs n k)
     grant_some [] h = absurd (cc)
     grant_some (g ∷ gs) h =
         elim (or_cases (on p g) (holds_where p gs n k) h) [
@@ -141,7 +141,7 @@ module _ (p : Mode → Bool) (k : Key) where
         ]
 
 module _ (p : Mode → Bool) (k : Key) (n : ℕ) where
-  grant_back : (gs : List (Grant Key)) (m : Mode) → p m ≡ true → has_grant key_cmp gs n k m ≡ true → holds_where p gs n k ≡ true
+  pub grant_back : (gs : List (Grant Key)) (m : Mode) → p m ≡ true → has_grant key_cmp gs n k m ≡ true → holds_where p gs n k ≡ true
   grant_back [] m e h = absurd (cc)
   grant_back (g ∷ gs) m e h =
       elim (or_cases (on (is_same_mode m) k n (is_same_mode m) g) (has_grant key_cmp gs n k m) h) [
@@ -160,7 +160,7 @@ module _ (p : Mode → Bool) (k : Key) (n : ℕ) where
 -- ---- who is in the way
 module _ (w : Stage) (r : IsStage w) (es : List Event) (l : IsLegal w es) (table : List TableRow) (index : List CellRow) (grants : List (Grant Key)) (t : Ties w.settings (state w es) table index grants)
     (s : ℕ) (k : Key) (code : IsCoded k) (m : Mode) where
-  blocks_same : (n : ℕ) → IsSession n → locks.blocks key_cmp grants s k m n ≡ legal.blocks (state w es).of s k m n
+  pub blocks_same : (n : ℕ) → IsSession n → locks.blocks key_cmp grants s k m n ≡ legal.blocks (state w es).of s k m n
   blocks_same n is = ap (λ b. not (eqb n s) && b) (same_where (λ held. not (is_compatible held m)) k n grants ((state w es).of n).held (t.held n is k code))
 
   -- the sessions that the lock table gives are the conflict

@@ -34,6 +34,7 @@ use Rattle.sg_engine.specs.Shown.{Seated, empty_seat, seat_in, seated, running_o
 use Rattle.sg_engine.specs.Inside.{seat_of, running_in}
 use Rattle.sg_engine.specs.Phases.{last_wish, IsNameOf, IsWriting, IsWork, IsSearching, IsPending, IsRunning, IsSeat, AreSeats}
 use Rattle.sg_engine.proofs.Events.{with_other}
+use Rattle.sg_engine.proofs.Unsure.{left_stays}
 
 -- ---- lists of seats
 pub if_some : {A : Type 0} (P Q : A → Type 0) (o : Option A) → ((x : A) → o ≡ Some x → P x → Q x) → IfSome o P → IfSome o Q
@@ -101,14 +102,18 @@ module _ (w : Stage) (staged : IsStage w) (e : Event) (es : List Event) (legal :
       work_on st sound (work.Awaits found job) h = record {
         name = name_on job h.name;
         asks = h.asks;
+        items = left_stays w staged e es legal u ne st job.items h.guarded h.items;
+        some = h.some;
         guarded = guarded_on st h.guarded;
         replies = λ ks is. if_some (Reply w.settings (view (state w es) u) st) (Reply w.settings (view (state w (e ∷ es)) u) st) _ (λ a _ r. reply_on st sound h.guarded a r) (h.replies ks is);
       }
       work_on st sound (work.Refined found done) h = record {
+        asks = h.asks;
         guarded = guarded_on st h.guarded;
         reply = if_some (Reply w.settings (view (state w es) u) st) (Reply w.settings (view (state w (e ∷ es)) u) st) _ (λ a _ r. reply_on st sound h.guarded a r) h.reply;
       }
       work_on st sound (work.Writes change) h = record {
+        writes = h.writes;
         change_for = h.change_for;
         behind = behind st change h;
         selects = selects_on st change.selected sound h.guarded h.selects;

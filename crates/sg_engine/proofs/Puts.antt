@@ -86,18 +86,18 @@ module _ (V : Type 0) (s u : ℕ) where
   abbrev put : Version V
   put = fresh s
 
-  unseen : visible u (Some put) ≡ None
+  pub unseen : visible u (Some put) ≡ None
   unseen = either_way (is_writer u (Some s)) None
 
 module _ {K V : Type 0} (cmp : K → K → Ordering) (total : IsTotalOrder cmp) (s : ℕ) (key : K) (old : List (K × Version V)) (absent : lookup (is_at (cmp key)) old ≡ None) where
   abbrev new : List (K × Version V)
   new = insert_entry cmp old key (fresh s)
 
-  at : (k : K) → lookup (is_at (cmp k)) new ≡ cond (is_eq (cmp key k)) (Some (fresh s)) (lookup (is_at (cmp k)) old)
+  pub at : (k : K) → lookup (is_at (cmp k)) new ≡ cond (is_eq (cmp key k)) (Some (fresh s)) (lookup (is_at (cmp k)) old)
   at k = lookup_inserted cmp total key k (fresh s) old
 
   -- what no fresh key has is as before
-  as_before : {A : Type 0} (look : Option (Version V) → A) → look (Some (fresh s)) ≡ look None → (k : K) → look (lookup (is_at (cmp k)) new) ≡ look (lookup (is_at (cmp k)) old)
+  pub as_before : {A : Type 0} (look : Option (Version V) → A) → look (Some (fresh s)) ≡ look None → (k : K) → look (lookup (is_at (cmp k)) new) ≡ look (lookup (is_at (cmp k)) old)
   as_before look e k = ap look (at k) ∙ by_test (is_eq (cmp key k)) refl
     where
       by_test : (b : Bool) → is_eq (cmp key k) ≡ b → look (cond b (Some (fresh s)) (lookup (is_at (cmp k)) old)) ≡ look (lookup (is_at (cmp k)) old)

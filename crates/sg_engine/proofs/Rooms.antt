@@ -28,16 +28,16 @@ on_err (Ok x) h = tt
 on_err (Err e) h = h
 
 -- ---- what is shown of them
-abbrev seat_with : ℕ → Option shown.Running → Seated
+abbrev pub seat_with : ℕ → Option shown.Running → Seated
 seat_with b o = record { begun = b; running = o }
 
-told : (b : ℕ) (a : Option shown.Running) (c : ℕ) (d : Option shown.Running) → b ≡ c → a ≡ d → seat_with b a ≡ seat_with c d
+pub told : (b : ℕ) (a : Option shown.Running) (c : ℕ) (d : Option shown.Running) → b ≡ c → a ≡ d → seat_with b a ≡ seat_with c d
 told b a c d p q = ap (λ n. seat_with n a) p ∙ ap (seat_with c) q
 
-abbrev run_with : List Statement → List Answer → Option Statement → shown.Running
+abbrev pub run_with : List Statement → List Answer → Option Statement → shown.Running
 run_with xs a o = record { statements = xs; answers = a; open_one = o }
 
-told_running : (xs ys : List Statement) (a b : List Answer) (o p : Option Statement) → xs ≡ ys → a ≡ b → o ≡ p → run_with xs a o ≡ run_with ys b p
+pub told_running : (xs ys : List Statement) (a b : List Answer) (o p : Option Statement) → xs ≡ ys → a ≡ b → o ≡ p → run_with xs a o ≡ run_with ys b p
 told_running xs ys a b o p e f g = ap (λ z. run_with z a o) e ∙ (ap (λ z. run_with ys z o) f ∙ ap (run_with ys b) g)
 
 abbrev statement_in : Option Pending → Option Statement

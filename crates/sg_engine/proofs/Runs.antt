@@ -42,11 +42,11 @@ module _ {A : Type 0} where
       joined p q = λ i. p i ∷ q i
 
 -- ---- events without their statements
-abbrev nothing : Statement
+abbrev pub nothing : Statement
 nothing = Delete 0
 
 -- an event of this label
-abbrev plain_of : Label → Event
+abbrev pub plain_of : Label → Event
 plain_of (label.Begin s t) = Begin s t
 plain_of (label.Ask s n) = Ask s n nothing
 plain_of (label.Take s k m) = Take s k m
@@ -57,7 +57,7 @@ plain_of (label.Answer s a) = Answered s a
 plain_of (label.Commit s p) = Commit s p
 plain_of (label.Rollback s c) = Rollback s c
 
-abbrev plains : List Event → List Event
+abbrev pub plains : List Event → List Event
 plains [] = []
 plains (e ∷ es) = plain_of (label_of e) ∷ plains es
 
@@ -175,7 +175,7 @@ module _ (w : Stage) (xs ys : List Event) (labels : labels_of xs ≡ labels_of y
       let q : Four ((state w (plains xs)).of u) ((state w ys).of u) = subst (λ es. Four ((state w es).of u) ((state w ys).of u)) (sym (plains_same xs ys labels)) (four w ys u) in
       record { begun = sym p.begun ∙ q.begun; live = sym p.live ∙ q.live; held = sym p.held ∙ q.held; puts = sym p.puts ∙ q.puts }
 
-  by_plains : {A : Type 0} (f : List Event → A) → ((es : List Event) → f (plains es) ≡ f es) → f xs ≡ f ys
+  pub by_plains : {A : Type 0} (f : List Event → A) → ((es : List Event) → f (plains es) ≡ f es) → f xs ≡ f ys
   by_plains f h = sym (h xs) ∙ (ap f (plains_same xs ys labels) ∙ h ys)
 
 -- ---- what the seats determine

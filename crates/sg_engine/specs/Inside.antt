@@ -1,5 +1,5 @@
 -- What is shown of the fields of an engine.
-use Rattle.std.specs.Prelude.{◌≡◌, ◌+◌, ◌≤◌, [], ℤ, false, List, Option, Some, None, map}
+use Rattle.std.specs.Prelude.{◌≡◌, ◌+◌, ◌≤◌, [], ◌∷◌, ℤ, Bool, true, false, List, Option, Some, None, map}
 use Rattle.std.specs.Option.{option_map}
 use Rattle.sg_cells.specs.declared.settings.Settings.{Settings}
 use Rattle.sg_plain.specs.declared.statements.Statement.{Statement}
@@ -69,9 +69,22 @@ job_in_work (work.Awaits found job) = Some job
 job_in_work (work.Refined found done) = None
 job_in_work (work.Writes change) = None
 
+abbrev pub is_writing : Work → Bool
+is_writing work.Unread = false
+is_writing (work.Awaits found job) = false
+is_writing (work.Refined found done) = false
+is_writing (work.Writes change) = true
+
+-- whether the result of its job was delivered; of a statement that writes it is kept
+abbrev pub was_delivered : Work → Bool → Bool
+was_delivered work.Unread kept = false
+was_delivered (work.Awaits found job) kept = false
+was_delivered (work.Refined found done) kept = true
+was_delivered (work.Writes change) kept = kept
+
 abbrev pub job_in_pending : Option Pending → Refining
 job_in_pending None = no_job
-job_in_pending (Some p) = record { job = job_in_work p.work; delivered = p.delivered }
+job_in_pending (Some p) = record { job = job_in_work p.work; delivered = was_delivered p.work p.delivered; writes = is_writing p.work }
 
 abbrev pub job_in_running : Option Running → Refining
 job_in_running None = no_job

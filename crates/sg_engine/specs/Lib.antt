@@ -3,3 +3,15 @@ pub mod Phases
 pub mod Ties
 pub mod Inside
 pub mod Ends
+pub mod Nexts
+pub mod Searches
+pub mod Waiting
+pub mod Steps
+pub mod Answers
+pub mod Strangers
+pub mod Acting
+pub mod Preparing
+pub mod Wishes
+pub mod Outside
+pub mod Stepping
+pub mod Reaching

@@ -1,16 +1,20 @@
 -- What an engine keeps of a session whose statement is open, as far as the statement has come.
-use Rattle.std.specs.Prelude.{◌≡◌, ℕ, suc, ◌≤◌, ◌-◌, cond, List, [], ◌∷◌, length, eqb, slice_get, Option, Some, None, IfSome}
+use Rattle.std.specs.Prelude.{◌≡◌, ◌≢◌, ℕ, suc, ◌≤◌, ◌-◌, Bool, ◌&&◌, not, cond, List, [], ◌∷◌, length, filter, eqb, slice_get, Option, Some, None, IfSome}
+use Rattle.sg_shape.specs.declared.shapes.Shape.{Shape}
 use Rattle.sg_cells.specs.declared.keys.Key.{Key}
+use Rattle.sg_cells.specs.declared.settings.Settings.{Settings}
 use Rattle.sg_locks.specs.Grants.{Grant}
 use Rattle.sg_plain.specs.declared.statements.Query.{Query}
 use Rattle.sg_plain.specs.declared.statements.Statement.{Statement}
 use Rattle.sg_plain.specs.declared.statements.Statement.TheVariants.{Insert, Update, Delete, Get, Select, Plan, Filter, DeleteWhere}
 use Rattle.sg_plain.specs.declared.statements.Answer.{Answer}
 use Rattle.sg_plain.specs.declared.statements.Answer.TheVariants as answer
+use Rattle.sg_plain.specs.Rows.{Rows}
 use Rattle.sg_plain.specs.Sat.{IsSoundStatement}
 use Rattle.sg_refine.specs.Jobs.{Job, AreKeysOf}
 use Rattle.sg_rows.specs.Table.{TableRow}
 use Rattle.sg_cellrows.specs.CellTable.{CellRow}
+use Rattle.sg_trace.specs.Candidates.{touches, proves_in}
 use Rattle.sg_trace.specs.Needs.{Held, Selects}
 use Rattle.sg_trace.specs.Pending.{chosen}
 use Rattle.sg_trace.specs.Replies.{Reply, meeting}
@@ -19,8 +23,9 @@ use Rattle.sg_trace.specs.Legal.{cost}
 use Rattle.sg_scan.specs.declared.needs.Reader.{Reader}
 use Rattle.sg_scan.specs.declared.scans.Found.{Found}
 use Rattle.sg_scan.specs.Cursors.{IsReaderFor, IsPassed}
+use Rattle.sg_scan.specs.Scans.{HasQuery}
 use Rattle.sg_writes.specs.declared.changes.Change.{Change}
-use Rattle.sg_writes.specs.Changes.{IsChangeFor, IsBehindHeld}
+use Rattle.sg_writes.specs.Changes.{Writes, IsChangeFor, IsBehindHeld}
 use Rattle.sg_laws.specs.Reading.{IsReading, IsGuarded}
 use Rattle.sg_engine.specs.declared.shared.Work.{Work}
 use Rattle.sg_engine.specs.declared.shared.Work.TheVariants as work
@@ -67,6 +72,25 @@ IsJobOf (Insert k s) job = ⊥
 IsJobOf (Update k s) job = ⊥
 IsJobOf (Delete k) job = ⊥
 
+-- a candidate of the query that isn't sure
+abbrev pub is_unsure : Settings → Query → Shape → Bool
+is_unsure c q s = touches c q s && not (proves_in c.grid c.window q s)
+
+abbrev pub unsure_rows : Settings → Query → Rows → Rows
+unsure_rows c q rows = filter (λ row. is_unsure c q row.1) rows
+
+-- what is left to be refined of a search on these rows: its candidates that aren't sure. A filter over an index is never
+-- refined.
+abbrev pub AreLeft : Settings → Rows → Statement → Rows → Type 0
+AreLeft c rows (Select q) items = items ≡ unsure_rows c q rows
+AreLeft c rows (Plan q) items = items ≡ unsure_rows c q rows
+AreLeft c rows (Filter s) items = (c.grid ≡ None) × (items ≡ unsure_rows c (meeting s) rows)
+AreLeft c rows (DeleteWhere q) items = items ≡ unsure_rows c q rows
+AreLeft c rows (Get k) items = ⊥
+AreLeft c rows (Insert k s) items = ⊥
+AreLeft c rows (Update k s) items = ⊥
+AreLeft c rows (Delete k) items = ⊥
+
 -- what the session has of the number of its transaction and of its open statement
 pub record IsNameOf (w : Stage) (es : List Event) (s : ℕ) (job : Job) : Type 0 where
   pub session : job.name.session ≡ s
@@ -77,17 +101,21 @@ pub record IsNameOf (w : Stage) (es : List Event) (s : ℕ) (job : Job) : Type 0
 pub record IsAwaiting (w : Stage) (es : List Event) (s : ℕ) (st : Statement) (found : Found) (job : Job) : Type 0 where
   pub name : IsNameOf w es s job
   pub asks : IsJobOf st job
+  pub items : AreLeft w.settings (view (state w es) s) st job.items
+  pub some : job.items ≢ []
   pub guarded : IsGuarded w es s st
   pub replies : (ks : List ℕ) → AreKeysOf job ks → IfSome (answer_of st found ks) (Reply w.settings (view (state w es) s) st)
 
 -- the result has come
 pub record IsRefined (w : Stage) (es : List Event) (s : ℕ) (st : Statement) (found : Found) (passed : List ℕ) : Type 0 where
+  pub asks : HasQuery st
   pub guarded : IsGuarded w es s st
   pub reply : IfSome (answer_of st found passed) (Reply w.settings (view (state w es) s) st)
 
 module _ (w : Stage) (es : List Event) (table : List TableRow) (index : List CellRow) (grants : List (Grant Key)) (s : ℕ) where
   -- a change of the statement, with the keys that it selects; what lies behind its place is held
   pub record IsWriting (st : Statement) (change : Change) : Type 0 where
+    pub writes : Writes st
     pub change_for : IsChangeFor w.settings st change.selected change
     pub behind : IsBehindHeld grants s table index change
     pub selects : Selects (view (state w es) s) st change.selected

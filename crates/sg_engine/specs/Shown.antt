@@ -20,10 +20,12 @@ pub record Seated : Type 0 where
   pub begun : ℕ
   pub running : Option Running
 
--- the job that a session waits for, and whether the result of its open statement's job was delivered
+-- the job that a session waits for, whether the result of its open statement's job was delivered, and whether the
+-- statement has come to its writes
 pub record Refining : Type 0 where
   pub job : Option Job
   pub delivered : Bool
+  pub writes : Bool
 
 pub record Shown : Type 0 where
   pub stage : Stage
@@ -41,7 +43,7 @@ seat_in seats s = slice_index_or seats (s - 1) empty_seat
 
 -- no job is waited for, and no result was delivered
 abbrev pub no_job : Refining
-no_job = record { job = None; delivered = false }
+no_job = record { job = None; delivered = false; writes = false }
 
 -- the job of a session
 abbrev pub job_in : List Refining → ℕ → Refining

@@ -1,16 +1,25 @@
-ghost use Rattle.std.specs.Prelude.{◌≡◌, ◌≤◌, ℕ, [], ◌∷◌, ◌++◌, suc, length, true, OnOk, OnErr, IfOk, IfErr};
+ghost use Rattle.std.specs.Prelude.{◌≡◌, ◌↔◌, ◌≤◌, ℕ, [], ◌∷◌, ◌++◌, suc, length, true, false, None, Some, Err, OnOk, OnErr, IfOk, IfErr, IsOk};
 ghost use Rattle.sg_modes.specs.Priorities.{ArePriorities};
 ghost use Rattle.sg_plain.specs.Sat.{IsSoundStatement};
 ghost use Rattle.sg_rows.specs.Table.{committed_rows};
+ghost use Rattle.sg_trace.specs.Legal.{IsStage};
 ghost use Rattle.sg_trace.specs.Replies.{SerialIn};
 ghost use Rattle.sg_trace.specs.Traces.{Begin, Ask, Commit, Rollback};
+ghost use Rattle.sg_engine.specs.declared.steps.Step.TheVariants as step;
+ghost use Rattle.sg_engine.specs.Nexts.{WaitsForNone};
+ghost use Rattle.sg_engine.specs.Stepping.{HasStepped, IsStanding, Repeats};
 ghost use Rattle.sg_engine.specs.Ends.{MayRollBack, EndsJob, entry_in};
+ghost use Rattle.sg_engine.specs.Steps.{IsSameRun, SetsJob};
+ghost use Rattle.sg_engine.specs.Strangers.{IsStranger};
 ghost use Rattle.sg_engine.specs.Shown.{seat_in, IsIdle, IsBetween, Appends, next_statement, is_live_in, is_open_in, AreAnswers, IsRunOf, job_in, no_job};
 
+use crate::delivery::Stranger;
 use crate::shared::{AskBack, Shared};
+use crate::steps::Step;
 use sg_cells::Settings;
 use sg_modes::{Priorities, Session};
 use sg_plain::{PlainRows, Statement};
+use sg_refine::RefineDone;
 use sg_rows::Rows;
 use sg_shape::{CellJudge, Judge};
 use sg_trace::{Cause, Journal, KeptAnswers, Trace};
@@ -28,10 +37,11 @@ pub struct Engine<J: Judge + Copy + Send + Sync, C: CellJudge + Copy + Send + Sy
 
 impl<J: Judge + Copy + Send + Sync, C: CellJudge + Copy + Send + Sync> Model for Engine<J, C> {
     ghost use Rattle.sg_engine.specs.Shown.{Shown};
+    ghost use Rattle.sg_engine.specs.Outside.{outside};
 
     ghost Value = { Shown };
 
-    ghost view = { λ e. e.shared };
+    ghost view = { λ e. outside e.shared };
 }
 
 impl<J: Judge + Copy + Send + Sync, C: CellJudge + Copy + Send + Sync> Engine<J, C> {
@@ -52,6 +62,7 @@ impl<J: Judge + Copy + Send + Sync, C: CellJudge + Copy + Send + Sync> Engine<J,
         ensures stage { IfOk result (λ it. it.stage ≡ record { settings = settings; opening = rows; priorities = priorities }) }
         ensures run { IfOk result (IsRunOf []) }
         ensures jobs { IfOk result (λ it. (s : ℕ) → job_in it.jobs s ≡ no_job) }
+        ensures staged { IfOk result (λ it. IsStage it.stage) }
     {
         let shared = Shared::open(rt, alloc, &cell_judge, settings, rows, priorities)?;
         Ok(Engine {
@@ -85,6 +96,32 @@ impl<J: Judge + Copy + Send + Sync, C: CellJudge + Copy + Send + Sync> Engine<J,
         self.shared.ask(s, statement)
     }
 
+    /// Takes the result of the job that the session waits for. `Stranger` says why it isn't the result of that job, and
+    /// nothing has changed then, so that the right one can still be taken. It takes no memory.
+    pub fn deliver(&mut self, s: Session, done: RefineDone) -> Result<(), Stranger>
+        ensures ok { IsOk result ↔ (job_in self.old.jobs s).job ≡ Some done.job }
+        ensures stranger { (why : Stranger) → (result ≡ Err why) ↔ IsStranger (job_in self.old.jobs s).job done.job why }
+        ensures run { OnOk result (IsSameRun self.old self.new) }
+        ensures job { OnOk result (SetsJob s (record { job = None; delivered = true; writes = false }) self.old self.new) }
+        ensures err { OnErr result (self.new ≡ self.old) }
+    {
+        let _number = s.number();
+        self.shared.deliver(s, done)
+    }
+
+    /// One step of the session's open statement; `Idle` where there is none. A wait that stands is repeated.
+    /// `AllocError` is want of memory, which comes in neither of these cases; nothing has changed then.
+    pub fn step(&mut self, s: Session) -> Result<Step, AllocError>
+        ensures idle { IfOk result (λ it. (it ≡ step.Idle) ↔ (is_open_in self.old s ≡ false)) }
+        ensures ok { IfOk result (HasStepped s self.old self.new) }
+        ensures stands { IsStanding self.old s → IfOk result (Repeats s self.old self.new) }
+        ensures err { OnErr result (self.new ≡ self.old) }
+        ensures asking { OnErr result (is_open_in self.old s ≡ true) }
+        ensures free { OnErr result (WaitsForNone self.old s) }
+    {
+        self.shared.step(&self.cell_judge, s)
+    }
+
     /// Commits the session's transaction, in which no statement may be open, and gives its place among all commits,
     /// from 1. Its changes are kept, and its locks given back. It takes no memory.
     pub fn commit(&mut self, s: Session) -> u64
@@ -94,6 +131,7 @@ impl<J: Judge + Copy + Send + Sync, C: CellJudge + Copy + Send + Sync> Engine<J,
         ensures entry { self.new.journal ≡ self.old.journal ++ entry_in s (seat_in self.old.seats s) ∷ [] }
         ensures job { EndsJob s self.old self.new }
     {
+        let _number = s.number();
         self.shared.commit(s)
     }
 
@@ -104,6 +142,7 @@ impl<J: Judge + Copy + Send + Sync, C: CellJudge + Copy + Send + Sync> Engine<J,
         ensures run { Appends (Rollback s cause ∷ []) self.old self.new }
         ensures job { EndsJob s self.old self.new }
     {
+        let _number = s.number();
         self.shared.rollback(s, cause);
     }
 

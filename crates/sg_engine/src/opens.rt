@@ -2,6 +2,7 @@ ghost use Rattle.std.specs.Prelude.{◌≡◌, ◌≤◌, ℕ, [], length, IfOk,
 ghost use Rattle.std.specs.List.{AllByRecursion};
 ghost use Rattle.sg_cells.specs.Cells.{IsGrid};
 ghost use Rattle.sg_modes.specs.Priorities.{ArePriorities};
+ghost use Rattle.sg_trace.specs.Legal.{IsStage};
 ghost use Rattle.sg_engine.specs.Shown.{IsRunOf, job_in, no_job};
 ghost use Rattle.sg_engine.specs.Inside.{IsUnused};
 
@@ -34,6 +35,7 @@ impl Shared {
         ensures stage { IfOk result (λ it. it.stage ≡ record { settings = settings; opening = rows; priorities = priorities }) }
         ensures run { IfOk result (IsRunOf []) }
         ensures jobs { IfOk result (λ it. (s : ℕ) → job_in it.jobs s ≡ no_job) }
+        ensures staged { IfOk result (λ it. IsStage it.stage) }
     {
         check_grid(&settings);
         let _all_rise = rows.as_slice();

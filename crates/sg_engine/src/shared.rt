@@ -40,7 +40,7 @@ pub(crate) struct Pending {
     /// What it reads, once it has begun to.
     pub(crate) reader: Option<Reader>,
     pub(crate) work: Work,
-    /// Whether the result of its job was delivered.
+    /// Once it writes, whether the result of its job was delivered.
     pub(crate) delivered: bool,
 }
 

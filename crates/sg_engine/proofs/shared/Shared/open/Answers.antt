@@ -30,3 +30,10 @@ returns-clause-run g c =
 
 pub returns-clause-jobs : goal.returns-clause-jobs
 returns-clause-jobs g c = λ s. no_jobs c.in_ok-seats.seats.items c.in_ok-seats.ensures.unused (s - 1)
+
+pub returns-clause-staged : goal.returns-clause-staged
+returns-clause-staged g c = record {
+  settings = record { grid = c.check_grid.ensures; least = c.requires.least; most = c.requires.most };
+  rows = subst AreRows (sym c.in_ok-opening.ensures) c.as_slice-all_rise.ensures.rows;
+  priorities = c.requires.priorities;
+}

@@ -1,0 +1,10 @@
+use Rattle.std.proofs.Common.{sym, subst}
+use Rattle.sg_shape.specs.Sound.{IsSound}
+use Rattle.sg_table.proofs.Waiting.{goes_last}
+use Rattle.sg_engine.proofs.queries.offer.Goals as goal
+
+pub push-requires : goal.push-requires
+push-requires c = record {
+  above = goes_last c.args.job.now.items c.args.key c.as_slice-all_rise.ensures.rows c.requires.above;
+  sound = subst IsSound (sym c.in_ok-copy.ensures) c.in-Some.ensures.sound;
+}
