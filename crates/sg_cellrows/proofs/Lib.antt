@@ -1,4 +1,4 @@
-pub mod Mirrors
 pub mod Following
 pub mod NextCells
+pub mod Mirrors
 pub mod SeenCells

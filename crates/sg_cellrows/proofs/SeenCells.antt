@@ -15,18 +15,19 @@ use Rattle.sg_cells.specs.declared.marks.Mark.{Mark}
 use Rattle.sg_versions.specs.declared.version.Version.{Version}
 use Rattle.sg_versions.specs.Versions.{visible, seen}
 use Rattle.sg_cellrows.specs.CellTable.{CellRow, cell_cmp, version_at, is_above, IsLeast}
-use Rattle.sg_cellrows.specs.Nexts.{RowKey, RowCell, row_key_cmp, version_in, seen_in, IsNextCell, IsMirrored}
-use Rattle.sg_cellrows.proofs.NextCells.{cell_total, row_key_total}
+use Rattle.sg_cellrows.specs.Nexts.{PartKey, RowCell, part_key_cmp, version_in, seen_in, IsNextCell, IsMirrored}
+use Rattle.sg_cellrows.proofs.Mirrors.{seen_in_part}
+use Rattle.sg_cellrows.proofs.NextCells.{cell_total, part_key_total}
 
-lookup_by : (p q : RowKey → Bool) (rows : List RowCell) → ((k : RowKey) → p k ≡ q k) → lookup p rows ≡ lookup q rows
+lookup_by : (p q : PartKey → Bool) (rows : List RowCell) → ((k : PartKey) → p k ≡ q k) → lookup p rows ≡ lookup q rows
 lookup_by p q [] same = refl
 lookup_by p q (x ∷ rows) same = let here = same x.0 in rw here (ap (λ t. cond (q x.0) (Some x.1) t) (lookup_by p q rows same))
 
-same_cell : (r : ℕ) (c d : Cell) → cell_cmp c d ≡ Equal → row_key_cmp (r, c) (r, d) ≡ Equal
+same_cell : (r : ℕ) (c d : Cell) → cell_cmp c d ≡ Equal → part_key_cmp (false, (r, c)) (false, (r, d)) ≡ Equal
 same_cell r c d e = let same = tied_itself nat_cmp_total r in rw (same, e) refl
 
 version_alike : (rows : List RowCell) (r : ℕ) (c d : Cell) → cell_cmp c d ≡ Equal → version_in rows (r, c) ≡ version_in rows (r, d)
-version_alike rows r c d e = lookup_by (is_at (row_key_cmp (r, c))) (is_at (row_key_cmp (r, d))) rows (λ k. ap is_eq (row_key_total.congr (r, c) (r, d) k (same_cell r c d e)))
+version_alike rows r c d e = lookup_by (is_at (part_key_cmp (false, (r, c)))) (is_at (part_key_cmp (false, (r, d)))) rows (λ k. ap is_eq (part_key_total.congr (false, (r, c)) (false, (r, d)) k (same_cell r c d e)))
 
 further_by : (last : Option Cell) (c d : Cell) → is_above last c ≡ true → is_above (Some c) d ≡ true → is_above last d ≡ true
 further_by None c d h k = refl
@@ -94,7 +95,7 @@ module _ (rows : List RowCell) (s r : ℕ) (above : Option Cell) where
 -- ---- the same by the other order
 module _ (by_cell : List CellRow) (by_row : List RowCell) (mirrored : IsMirrored by_cell by_row) (s r : ℕ) (above : Option Cell) where
   seen_is : (c : Cell) → visible s (version_at by_cell (c, r)) ≡ seen_in by_row s r c
-  seen_is c = ap (visible s) (mirrored c r)
+  seen_is c = sym (seen_in_part s (version_at by_cell (c, r))) ∙ ap (visible s) (mirrored false c r)
 
   pub least_seen : (found : Option (Cell × Mark)) → IfSome found (IsLeast (seen_in by_row s r) above) → IfSome found (IsLeast (λ c. visible s (version_at by_cell (c, r))) above)
   least_seen None h = tt

@@ -4,10 +4,10 @@
 //! Memory is taken by reserving alone, so that no write and no end of a transaction can fail.
 #![tactic(auto)]
 
-ghost use Rattle.std.specs.Prelude.{◌≡◌, ◌+◌, ◌≤◌, ◌⊎◌, [], true, is_some, IsSome, IfSome, IfNone, IsOk, OnOk, None, Some};
-ghost use Rattle.std.specs.Ordering.{nat_cmp};
+ghost use Rattle.std.specs.Prelude.{◌≡◌, ◌+◌, ◌≤◌, ◌⊎◌, [], ℕ, Bool, true, not, cond, is_some, IsSome, IfSome, IfNone, IsOk, OnOk, None, Some};
+ghost use Rattle.std.specs.Ordering.{nat_cmp, is_eq};
 ghost use Rattle.std.specs.Option.{option_copied, option_map};
-ghost use Rattle.std.specs.Map.{lookup_entry};
+ghost use Rattle.std.specs.Map.{lookup, lookup_entry};
 ghost use Rattle.std.specs.Map.Iter.{deref_pair};
 ghost use Rattle.std.specs.BTreeMap.{is_at, insert_entry};
 ghost use Rattle.sg_cells.specs.Cells as cells;
@@ -15,7 +15,7 @@ ghost use Rattle.sg_pages.specs.Stored.{HasRisingKeys, first_from, first_past};
 ghost use Rattle.sg_versions.specs.Versions.{visible, fresh, kept_value, written, settled, change_at};
 ghost use Rattle.sg_versions.specs.Writers.{writer_of};
 ghost use Rattle.sg_cellrows.specs.CellTable.{cell_key_cmp, version_at, cell_key, is_above, IsLeast};
-ghost use Rattle.sg_cellrows.specs.Nexts.{row_key_cmp, version_in, seen_in, is_behind, IsNextCell};
+ghost use Rattle.sg_cellrows.specs.Nexts.{part_key_cmp, part_at, is_bare, is_bare_at, version_in, seen_in, is_behind, IsNextCell};
 
 use sg_cells::{Cell, Key, Mark};
 use sg_modes::Session;
@@ -29,11 +29,18 @@ use std::marker::Model;
 ///
 /// The pairs are kept by the row's key too, and there is room in both orders. A look-up compares a
 /// logarithmic number of pairs. The end of a session's writes costs what it wrote.
+// The pairs without any mark, as those that a row has come to and left since its last commit, stand in a part
+// of their own in the order by rows, so that a search for a row's marks doesn't meet them. A pair is always in
+// one of the two parts, and so the orders have as many pairs.
 #[derive(Drop)]
 pub struct CellRows {
     by_cell: Versions<(Cell, u32), Mark>,
-    by_row: Versions<(u32, Cell), Mark>,
+    by_row: Versions<PartKey, Mark>,
 }
+
+/// Whether there is no mark at a pair, neither a committed one nor one that a session has written since, and
+/// then the row's key and the cell. The pairs with a mark come first.
+type PartKey = (bool, (u32, Cell));
 
 impl Model for CellRows {
     ghost use Rattle.sg_cells.specs.declared.marks.Mark.{Mark};
@@ -132,7 +139,7 @@ impl CellRows {
     {
         let (cell, row) = key;
         self.by_cell.put_kept((cell, row), mark);
-        self.by_row.put_kept((row, cell), mark);
+        self.by_row.put_kept((false, (row, cell)), mark);
     }
 
     /// Adds the pair without a mark for the session, which is its writer then. It takes no memory,
@@ -145,7 +152,7 @@ impl CellRows {
     {
         let (cell, row) = key;
         self.by_cell.put_reserved(s, (cell, row));
-        self.by_row.put_reserved(s, (row, cell));
+        self.by_row.put_reserved(s, (true, (row, cell)));
     }
 
     /// Writes at a pair for the session, which is its writer then; `None` leaves no mark there. No
@@ -157,8 +164,14 @@ impl CellRows {
         ensures spare { self.old.spare ≤ self.new.spare }
     {
         let (cell, row) = key;
+        let was_bare = is_bare(&self.by_cell, (cell, row));
         self.by_cell.write(s, (cell, row), mark);
-        self.by_row.write(s, (row, cell), mark);
+        let is_bare = is_bare(&self.by_cell, (cell, row));
+        if is_bare == was_bare {
+            self.by_row.write(s, (is_bare, (row, cell)), mark);
+        } else {
+            move_pair(&mut self.by_row, s, (row, cell), is_bare, mark);
+        }
     }
 
     /// Commits all that the session wrote: its marks are the committed ones then, and the pairs at
@@ -183,6 +196,9 @@ impl CellRows {
 
     /// The least cell above the given one, or of all cells where none is given, at which the
     /// session sees a mark of this row, and that mark. `None` exactly where there is no such cell.
+    ///
+    /// It goes over the row's pairs between these cells at which there is a mark that the session doesn't see:
+    /// the committed ones that it has overwritten, and those that another has written.
     pub fn cell_of(&self, s: Session, row: u32, above: Option<Cell>) -> Option<(Cell, Mark)>
         ensures least { IfSome result (IsLeast (λ c. visible s (version_at self.now.rows (c, row))) above) }
         ensures none { IfNone result ((c : cells.Cell) → is_above above c ≡ true → visible s (version_at self.now.rows (c, row)) ≡ None) }
@@ -191,9 +207,41 @@ impl CellRows {
     }
 }
 
+// Whether there is no mark at the pair.
+fn is_bare(rows: &Versions<(Cell, u32), Mark>, key: (Cell, u32)) -> bool
+    ensures { result ≡ is_bare_at (version_at rows.now.rows key) }
+{
+    match rows.get(&key) {
+        None => true,
+        Some(version) => version.committed.is_none() && version.live.is_none(),
+    }
+}
+
+// Moves a pair that has no committed mark into the other part of the order by rows, with what the session
+// writes there.
+fn move_pair(
+    rows: &mut Versions<PartKey, Mark>,
+    s: Session,
+    key: (u32, Cell),
+    to: bool,
+    mark: Option<Mark>,
+)
+    requires present { IsSome (part_at rows.old.rows (not to) key) }
+    requires alone { (writer_of (part_at rows.old.rows (not to) key) ≡ None) ⊎ (writer_of (part_at rows.old.rows (not to) key) ≡ Some s) }
+    requires absent { part_at rows.old.rows to key ≡ None }
+    ensures each { (k : Bool × (ℕ × cells.Cell)) → lookup (is_at (part_key_cmp k)) rows.new.rows ≡ cond (is_eq (part_key_cmp (to, key) k)) (Some (written s mark (fresh s))) (cond (is_eq (part_key_cmp (not to, key) k)) None (lookup (is_at (part_key_cmp k)) rows.old.rows)) }
+    ensures spare { rows.old.spare ≤ rows.new.spare }
+{
+    let (row, cell) = key;
+    rows.write(s, (!to, (row, cell)), None);
+    rows.remove(s, &(!to, (row, cell)));
+    rows.put_reserved(s, (to, (row, cell)));
+    rows.write(s, (to, (row, cell)), mark);
+}
+
 // The least cell of the row above the given one at which the session sees a mark.
 fn seen_cell(
-    rows: &Versions<(u32, Cell), Mark>,
+    rows: &Versions<PartKey, Mark>,
     s: Session,
     row: u32,
     above: Option<Cell>,
@@ -211,9 +259,9 @@ fn seen_cell(
     None
 }
 
-// The row's next cell above the given one, with or without a mark.
+// The row's next cell above the given one at which there is a mark, of any session.
 fn next_cell(
-    rows: &Versions<(u32, Cell), Mark>,
+    rows: &Versions<PartKey, Mark>,
     row: u32,
     above: Option<Cell>,
 ) -> Option<(Cell, &Version<Mark>)>
@@ -223,8 +271,8 @@ fn next_cell(
     match first_behind(rows, row, above) {
         None => None,
         Some((key, version)) => {
-            if key.0 == row {
-                Some((key.1, version))
+            if !key.0 && key.1.0 == row {
+                Some((key.1.1, version))
             } else {
                 None
             }
@@ -232,18 +280,18 @@ fn next_cell(
     }
 }
 
-// The first pair behind the cell of the row.
+// The first pair behind the cell of the row, of those with a mark, or else the first without one.
 fn first_behind(
-    rows: &Versions<(u32, Cell), Mark>,
+    rows: &Versions<PartKey, Mark>,
     row: u32,
     above: Option<Cell>,
-) -> Option<(&(u32, Cell), &Version<Mark>)>
+) -> Option<(&PartKey, &Version<Mark>)>
     ensures first { option_map deref_pair result ≡ lookup_entry (is_behind row above) rows.now.rows }
-    ensures rising { HasRisingKeys row_key_cmp rows.now.rows }
+    ensures rising { HasRisingKeys part_key_cmp rows.now.rows }
 {
     match above {
-        None => rows.at_or_after(&(row, Cell::outside())),
-        Some(cell) => rows.after(&(row, cell)),
+        None => rows.at_or_after(&(false, (row, Cell::outside()))),
+        Some(cell) => rows.after(&(false, (row, cell))),
     }
 }
 

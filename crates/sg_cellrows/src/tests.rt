@@ -79,6 +79,23 @@ fn cells_of_a_row(rt: HostRuntime) -> Result<(), Fail> {
     Ok(())
 }
 
+// A session leaves a cell in which nothing is committed and comes back: the pair stays there all the time.
+#[test]
+fn comes_back(rt: HostRuntime) -> Result<(), Fail> {
+    let (cell, first) = (Cell::outside(), session(1)?);
+    let mut rows = CellRows::new(rt.alloc());
+    put(&mut rows, first, cell, 7)?;
+    write(&mut rows, first, cell, 7, Some(Mark::Part));
+    write(&mut rows, first, cell, 7, None);
+    assert_eq!(rt; rows.cell_of(first, 7, None), None);
+    assert!(rt; rows.present((cell, 7)));
+    write(&mut rows, first, cell, 7, Some(Mark::Cover));
+    assert_eq!(rt; rows.cell_of(first, 7, None), Some((cell, Mark::Cover)));
+    rows.undo(first);
+    assert!(rt; !rows.present((cell, 7)));
+    Ok(())
+}
+
 #[test]
 fn keeps(rt: HostRuntime) -> Result<(), Fail> {
     let second = session(2)?;

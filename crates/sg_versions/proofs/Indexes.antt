@@ -1,12 +1,13 @@
 -- A store's index by writers stays right as rows come, are written and end.
 use Rattle.std.specs.Prelude.{not, OnOk}
+use Rattle.std.proofs.lemmas.Bool.{eq-eqb}
 use Rattle.std.proofs.Common.{◌≡◌, ℕ, ◌+◌, ◌-◌, ◌≤◌, ◌⊎◌, inl, inr, Bool, true, false, cond, ◌||◌, ◌&&◌, List, [], ◌∷◌, Option, Some, None, refl, sym, ap, ◌∙◌, eqb-true, subst, arith}
 use mathlib.Core.Bool.{true≢false}
 use Rattle.std.specs.declared.cmp.Ordering.{Ordering}
 use Rattle.std.specs.declared.result.Result.{Result}
 use Rattle.std.specs.declared.result.Result.TheVariants.{Ok, Err}
 use Rattle.std.specs.Ordering.{is_eq}
-use Rattle.std.specs.Option.{is_none, IsSome, option_map}
+use Rattle.std.specs.Option.{is_none, is_some, IsSome, option_map}
 use Rattle.std.specs.Cmp.{IsTotalOrder}
 use Rattle.std.specs.List.Sorted.{IsStrictlySortedBy}
 use Rattle.std.specs.Map.{keys_of, lookup, remove_entry, set_value}
@@ -19,7 +20,7 @@ use Rattle.sg_versions.specs.Versions.{is_writer, kept_value, fresh, written, en
 use Rattle.sg_versions.specs.Writers.{session_cmp, writer_of, writer_at, unwritten, settle_by, settle_at, is_emptied_by, IsIndexed}
 use Rattle.sg_versions.proofs.Orders.{lookup_alike, lookup_set, lookup_removed, lookup_inserted}
 use Rattle.sg_versions.proofs.Listings.{listed_more, listed_same, listed_less}
-use Rattle.sg_versions.proofs.Rooms.{unwritten_set, unwritten_inserted, unwritten_settled}
+use Rattle.sg_versions.proofs.Rooms.{unwritten_set, unwritten_inserted, unwritten_settled, unwritten_removed}
 
 pub implied_ok : {A E : Type 0} {P Q : Type 0} (r : Result A E) → (P → Q) → OnOk r P → OnOk r Q
 implied_ok (Ok x) f h = f h
@@ -32,6 +33,14 @@ none_from (Some x) e = absurd (true≢false (sym e))
 pub writer_is : (s : ℕ) (o : Option ℕ) → is_writer s o ≡ true → o ≡ Some s
 writer_is s None e = absurd (true≢false (sym e))
 writer_is s (Some w) e = ap Some (sym (eqb-true s w e))
+
+pub is_own : (s : ℕ) (o : Option ℕ) → o ≡ Some s → is_writer s o ≡ true
+is_own s o own = ap (is_writer s) own ∙ eq-eqb s s refl
+
+-- a key with a writer is there
+pub some_written : {V : Type 0} (s : ℕ) (o : Option (Version V)) → writer_of o ≡ Some s → is_some o ≡ true
+some_written s None own = absurd (true≢false (ap is_none own))
+some_written s (Some v) own = refl
 
 -- a key that isn't free to be written by others has this writer
 pub own_from : (s : ℕ) (o : Option ℕ) → (o ≡ None) ⊎ (o ≡ Some s) → is_none o ≡ false → o ≡ Some s
@@ -153,4 +162,14 @@ module _ {K V : Type 0} (cmp : K → K → Ordering) (total : IsTotalOrder cmp) 
       rising = rising;
       listed_are = listed_less cmp total s k listed less (λ b. writer_at cmp b rows) (λ b. writer_at cmp b new) indexed.listed_are alike (writer_is s _ own) (λ b. ap (writer_at cmp b) is ∙ ended_by e b s _ refl own indexed.rising) drops;
       room_is = let most = unwritten_settled (is_at (cmp k)) e rows in let same = ap unwritten is in omega (arith, most, same, spare, indexed.room_is);
+    }
+
+    -- a key of the session's own is taken out
+    pub indexed_removed : (s : ℕ) (new : List (K × Version V)) (less : List (ℕ × K)) (left : ℕ) → writer_at cmp k rows ≡ Some s → new ≡ remove_entry (is_at (cmp k)) rows → HasRisingKeys cmp new
+        → ((a : ℕ) (b : K) → has_pair session_cmp cmp less a b ≡ (not (is_eq (pair_cmp session_cmp cmp (a, b) (s, k))) && has_pair session_cmp cmp listed a b)) → room + 1 ≤ left → IsIndexed cmp new less left
+    indexed_removed s new less left own is rising drops spare = record {
+      rising = rising;
+      listed_are = listed_less cmp total s k listed less (λ b. writer_at cmp b rows) (λ b. writer_at cmp b new) indexed.listed_are alike own
+          (λ b. ap (writer_at cmp b) is ∙ ap writer_of (lookup_removed cmp total k b rows indexed.rising) ∙ writer_cond_none (is_eq (cmp k b)) (lookup (is_at (cmp b)) rows)) drops;
+      room_is = let most = unwritten_removed (is_at (cmp k)) rows in let same = ap unwritten is in omega (arith, most, same, spare, indexed.room_is);
     }

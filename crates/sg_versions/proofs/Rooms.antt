@@ -1,6 +1,6 @@
 -- How many keys have no writer, after a change.
 use Rattle.std.specs.Prelude.{unwrap_or}
-use Rattle.std.proofs.Common.{◌≡◌, ℕ, ◌+◌, ◌≤◌, Bool, true, false, cond, List, [], ◌∷◌, length, Option, Some, None, refl, sym, ap, ◌∙◌, arith}
+use Rattle.std.proofs.Common.{◌≡◌, ℕ, ◌+◌, ◌≤◌, Bool, true, false, cond, List, [], ◌∷◌, length, Option, Some, None, refl, sym, ap, arith}
 use mathlib.Core.Bool.{true≢false}
 use Rattle.std.specs.declared.cmp.Ordering.{Ordering}
 use Rattle.std.specs.Option.{is_none, IsSome, option_map}
@@ -93,6 +93,18 @@ module _ {K V : Type 0} where
         let gone : unwrap_or (option_map taken (lookup test rows)) 0 ≡ taken v = ap (λ o. unwrap_or (option_map taken o) 0) found in
         omega (arith, sum, gone, one)
     counted_left e v false found one = let sum = sum_by-set_value taken test rows v (ended e v) found in omega (arith, sum, one)
+
+    removed_count : (s : ℕ) (o : Option (Version V)) → lookup test rows ≡ o → writer_of o ≡ Some s → count_written (remove_entry test rows) + 1 ≡ count_written rows
+    removed_count s None found own = absurd (true≢false (ap is_none own))
+    removed_count s (Some v) found own =
+        let sum = sum_by-remove_entry taken test rows in
+        let gone : unwrap_or (option_map taken (lookup test rows)) 0 ≡ taken v = ap (λ o. unwrap_or (option_map taken o) 0) found in
+        let one : taken v ≡ 1 = ap {B = ℕ} (λ o. cond (is_none o) 0 1) own in
+        omega (arith, sum, gone, one)
+
+    -- a key less has a writer, once it is out
+    pub counted_removed : (s : ℕ) → writer_of (lookup test rows) ≡ Some s → count_written (remove_entry test rows) + 1 ≡ count_written rows
+    counted_removed s own = removed_count s _ refl own
 
     settled_count : (e : End) (s : ℕ) (o : Option (Version V)) → lookup test rows ≡ o → is_writer s (writer_of o) ≡ true → count_written (settle_by test e rows o) + 1 ≡ count_written rows
     settled_count e s None found own = absurd (true≢false (sym own))

@@ -30,6 +30,9 @@ fn keep_and_undo(rt: HostRuntime) -> Result<(), Fail> {
     assert_eq!(rt; versions.after(&30).map(|row| *row.0), None);
 
     versions.put_reserved(second, 40);
+    versions.remove(second, &40);
+    assert!(rt; versions.get(&40).is_none());
+    versions.put_reserved(second, 40);
     versions.write(second, 20, None);
     versions.write(second, 20, Some(7));
     versions.undo(second);

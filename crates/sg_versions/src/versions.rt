@@ -163,6 +163,19 @@ impl<K: Ord + Copy, V: Drop> Versions<K, V> {
         }
     }
 
+    /// Takes out a key whose writer the session is, with all that it has. It takes no memory, and leaves
+    /// room for another key.
+    pub fn remove(&mut self, s: Session, key: &K)
+        requires own { writer_of (lookup (is_at (K.cmp key.now)) self.old.rows) ≡ Some s }
+        ensures rows { self.new.rows ≡ remove_entry (is_at (K.cmp key.now)) self.old.rows }
+        ensures each { (k : K) → lookup (is_at (K.cmp k)) self.new.rows ≡ cond (is_eq (K.cmp key.now k)) None (lookup (is_at (K.cmp k)) self.old.rows) }
+        ensures spare { self.old.spare + 1 ≤ self.new.spare }
+    {
+        self.rows.remove(key);
+        self.listed.remove(&s, key);
+        self.written_keys -= 1;
+    }
+
     /// Commits all that the session wrote: its values are the committed ones then, and the keys at
     /// which it left none are gone. It takes no memory, and no room is lost.
     pub fn keep(&mut self, s: Session)
