@@ -21,13 +21,12 @@ use Rattle.sg_trace.specs.Candidates.{bound_of}
 use Rattle.sg_trace.specs.Replies.{meeting}
 use Rattle.sg_trace.specs.Laws.{AreSettings}
 use Rattle.sg_trace.specs.Needs.{Locking}
-use Rattle.sg_scan.specs.declared.scans.Scan.{Scan}
-use Rattle.sg_scan.specs.declared.scans.Scan.TheVariants as scan
+use Rattle.sg_scan.specs.declared.searches.Search.{Search}
+use Rattle.sg_scan.specs.declared.searches.Search.TheVariants as search
 use Rattle.sg_scan.specs.declared.needs.Place.{Place}
-use Rattle.sg_scan.specs.declared.needs.Reader.{Reader}
-use Rattle.sg_scan.specs.Scans.{IsScanIn, IsScanOf}
+use Rattle.sg_scan.specs.Scans.{IsSearchIn, IsSearchOf}
 use Rattle.sg_stores.specs.Held.{first_unheld}
-use Rattle.sg_scan.specs.Cursors.{IsOrdered, IsPlace, IsStored, IsPassed, IsReaderFor, behind, locking_of, start_place}
+use Rattle.sg_scan.specs.Cursors.{Cursor, IsOrdered, IsPlace, IsStored, IsPassed, IsScanFor, behind, locking_of, start_place}
 use Rattle.sg_stores.proofs.Numbers.{is_le-nat_cmp}
 use Rattle.sg_scan.proofs.Marks.{tess_codes, stands}
 use Rattle.sg_scan.proofs.Reading.{if_some}
@@ -49,49 +48,49 @@ query_rise g grid window None shape = tess_rise g grid shape window
 query_rise g grid window (Some d) shape = tess_rise g grid (grown d shape) window
 
 module _ (grants : List (Grant Key)) (s : ℕ) (table : List TableRow) (index : List CellRow) (c : Settings) (ok : AreSettings c) where
-  fresh_place : (q : Query) (o : Option Grid) → c.grid ≡ o → (x : Scan) → IsScanIn o c.window q x → IsPlace x start_place
-  fresh_place q None e scan.Nothing h = tt
-  fresh_place q None e scan.Every h = tt
-  fresh_place q None e (scan.Row k) h = absurd h
-  fresh_place q None e (scan.Cells x) h = absurd h
-  fresh_place q (Some g) e (scan.Cells x) h =
+  fresh_place : (q : Query) (o : Option Grid) → c.grid ≡ o → (x : Search) → IsSearchIn o c.window q x → IsPlace x start_place
+  fresh_place q None e search.Nothing h = tt
+  fresh_place q None e search.Every h = tt
+  fresh_place q None e (search.Row k) h = absurd h
+  fresh_place q None e (search.Cells x) h = absurd h
+  fresh_place q (Some g) e (search.Cells x) h =
       let grid = if_some IsGrid c.grid ok.grid g e in
       let rise : Steps 0 (ids x.ranges) =
       subst (Steps 0) (sym (h.ranges ∙ ap (λ es. ranges 4 (cells_of es)) h.cells)) (query_rise g grid c.window (bound_of q.test) q.shape) in
       place_start x.ranges 0 (ordered x.ranges 0 rise)
-  fresh_place q (Some g) e scan.Nothing h = absurd h
-  fresh_place q (Some g) e scan.Every h = absurd h
-  fresh_place q (Some g) e (scan.Row k) h = absurd h
+  fresh_place q (Some g) e search.Nothing h = absurd h
+  fresh_place q (Some g) e search.Every h = absurd h
+  fresh_place q (Some g) e (search.Row k) h = absurd h
 
-  fresh_met : (x : Scan) (m : Locking) → first_unheld grants s (behind x m start_place s table index) ≡ None
-  fresh_met (scan.Row k) m = refl
-  fresh_met scan.Nothing m = refl
-  fresh_met scan.Every m = refl
-  fresh_met (scan.Cells x) m = start_met grants s m index x.ranges
+  fresh_met : (x : Search) (m : Locking) → first_unheld grants s (behind x m start_place s table index) ≡ None
+  fresh_met (search.Row k) m = refl
+  fresh_met search.Nothing m = refl
+  fresh_met search.Every m = refl
+  fresh_met (search.Cells x) m = start_met grants s m index x.ranges
 
-  fresh_stored : (x : Scan) → IsStored x start_place table index
-  fresh_stored (scan.Row k) = tt
-  fresh_stored scan.Nothing = tt
-  fresh_stored scan.Every = tt
-  fresh_stored (scan.Cells x) = none_there x.ranges index 0
+  fresh_stored : (x : Search) → IsStored x start_place table index
+  fresh_stored (search.Row k) = tt
+  fresh_stored search.Nothing = tt
+  fresh_stored search.Every = tt
+  fresh_stored (search.Cells x) = none_there x.ranges index 0
 
-  by_query : (q : Query) (r : Reader) → IsScanOf c q r.scan → r.place ≡ start_place → IsPassed grants s table index r
+  by_query : (q : Query) (r : Cursor) → IsSearchOf c q r.search → r.place ≡ start_place → IsPassed grants s table index r
   by_query q r h at = record {
-    place = subst (IsPlace r.scan) (sym at) (fresh_place q c.grid refl r.scan h);
-    there = subst (λ (p : Place). IsStored r.scan p table index) (sym at) (fresh_stored r.scan);
-    met = ap (λ p. first_unheld grants s (behind r.scan (locking_of r.modes) p s table index)) at ∙ fresh_met r.scan (locking_of r.modes);
+    place = subst (IsPlace r.search) (sym at) (fresh_place q c.grid refl r.search h);
+    there = subst (λ (p : Place). IsStored r.search p table index) (sym at) (fresh_stored r.search);
+    met = ap (λ p. first_unheld grants s (behind r.search (locking_of r.modes) p s table index)) at ∙ fresh_met r.search (locking_of r.modes);
   }
 
-  pub fresh_passed : (st : Statement) (r : Reader) → IsReaderFor c st r → r.place ≡ start_place → IsPassed grants s table index r
+  pub fresh_passed : (st : Statement) (r : Cursor) → IsScanFor c st r → r.place ≡ start_place → IsPassed grants s table index r
   fresh_passed (Get k) r h at = record {
-    place = subst (λ x. IsPlace x r.place) (sym h.scan) tt;
-    there = subst (λ (p : Place). IsStored r.scan p table index) (sym at) (fresh_stored r.scan);
-    met = ap (λ p. first_unheld grants s (behind r.scan (locking_of r.modes) p s table index)) at ∙ fresh_met r.scan (locking_of r.modes);
+    place = subst (λ x. IsPlace x r.place) (sym h.search) tt;
+    there = subst (λ (p : Place). IsStored r.search p table index) (sym at) (fresh_stored r.search);
+    met = ap (λ p. first_unheld grants s (behind r.search (locking_of r.modes) p s table index)) at ∙ fresh_met r.search (locking_of r.modes);
   }
-  fresh_passed (Select q) r h at = by_query q r h.scan at
-  fresh_passed (Plan q) r h at = by_query q r h.scan at
-  fresh_passed (Filter shape) r h at = by_query (meeting shape) r h.scan at
-  fresh_passed (DeleteWhere q) r h at = by_query q r h.scan at
-  fresh_passed (Insert k shape) r h at = absurd h.scan
-  fresh_passed (Update k shape) r h at = absurd h.scan
-  fresh_passed (Delete k) r h at = absurd h.scan
+  fresh_passed (Select q) r h at = by_query q r h.search at
+  fresh_passed (Plan q) r h at = by_query q r h.search at
+  fresh_passed (Filter shape) r h at = by_query (meeting shape) r h.search at
+  fresh_passed (DeleteWhere q) r h at = by_query q r h.search at
+  fresh_passed (Insert k shape) r h at = absurd h.search
+  fresh_passed (Update k shape) r h at = absurd h.search
+  fresh_passed (Delete k) r h at = absurd h.search

@@ -25,13 +25,12 @@ use Rattle.sg_trace.specs.Replies.{meeting}
 use Rattle.sg_trace.specs.Laws.{AreSettings}
 use Rattle.sg_trace.specs.Keys.{same_key, has_key, next_key}
 use Rattle.sg_trace.specs.Needs as n
-use Rattle.sg_scan.specs.declared.scans.Scan.{Scan}
-use Rattle.sg_scan.specs.declared.scans.Scan.TheVariants as scan
-use Rattle.sg_scan.specs.declared.needs.Reader.{Reader}
+use Rattle.sg_scan.specs.declared.searches.Search.{Search}
+use Rattle.sg_scan.specs.declared.searches.Search.TheVariants as search
 use Rattle.sg_stores.specs.Agreement.{SeenAgree, seen_rows}
-use Rattle.sg_scan.specs.Scans.{IsScanIn, IsScanOf}
+use Rattle.sg_scan.specs.Scans.{IsSearchIn, IsSearchOf}
 use Rattle.sg_stores.specs.Keys.{index_keys, store_keys, AreCodes}
-use Rattle.sg_scan.specs.Cursors.{row_or_gap, first_of_row, total, locking_of, IsReaderFor, IsFirstNeed}
+use Rattle.sg_scan.specs.Cursors.{Cursor, row_or_gap, first_of_row, total, locking_of, IsScanFor, IsFirstNeed}
 use Rattle.sg_stores.specs.Held.{first_unheld, lock_need}
 use Rattle.sg_locks.specs.Grants.{Grant}
 use Rattle.sg_modes.specs.declared.modes.Mode.{Mode}
@@ -64,39 +63,39 @@ module _ (c : Settings) (ok : AreSettings c) (s : ℕ) (table : List TableRow) (
   ks = store_keys table index
 
   module _ (m : n.Locking) (q : Query) where
-    ranges_by : (g : Grid) → c.grid ≡ Some g → (x : Rattle.sg_scan.specs.declared.scans.CellScan.CellScan) → Rattle.sg_scan.specs.Scans.IsCellScan g c.window q x → n.ranges_of c q ≡ ids x.ranges
+    ranges_by : (g : Grid) → c.grid ≡ Some g → (x : Rattle.sg_scan.specs.declared.searches.CellSearch.CellSearch) → Rattle.sg_scan.specs.Scans.IsCellSearch g c.window q x → n.ranges_of c q ≡ ids x.ranges
     ranges_by g e x h =
         ap (λ o. n.ranges_in o c.window q) e ∙ (ap (λ es. ranges 4 (cells_of es)) (sym h.cells) ∙ sym h.ranges)
 
-    query_by : (o : Option Grid) → c.grid ≡ o → (x : Scan) → IsScanIn o c.window q x → n.query_needs_in o c m (seen_rows s table) q ks ≡ total x m s table index
-    query_by None e scan.Nothing h = ap (λ b. cond b [] (n.table_needs m.range ks)) h
-    query_by None e scan.Every h = ap (λ b. cond b [] (n.table_needs m.range ks)) h ∙ table_is m.range table index
-    query_by None e (scan.Row k) h = absurd h
-    query_by None e (scan.Cells x) h = absurd h
-    query_by (Some g) e (scan.Cells x) h =
+    query_by : (o : Option Grid) → c.grid ≡ o → (x : Search) → IsSearchIn o c.window q x → n.query_needs_in o c m (seen_rows s table) q ks ≡ total x m s table index
+    query_by None e search.Nothing h = ap (λ b. cond b [] (n.table_needs m.range ks)) h
+    query_by None e search.Every h = ap (λ b. cond b [] (n.table_needs m.range ks)) h ∙ table_is m.range table index
+    query_by None e (search.Row k) h = absurd h
+    query_by None e (search.Cells x) h = absurd h
+    query_by (Some g) e (search.Cells x) h =
         ap (λ ps. flat_map (n.range_needs c m (seen_rows s table) ks) ps) (ranges_by g e x h)
         ∙ ranges_are c m s (seen_rows s table) table index (alike_all c (if_some IsGrid c.grid ok.grid) s table index agree rising m index codes (each_found cell_key_cmp cell_key_total index index_rising)) x.ranges
-    query_by (Some g) e scan.Nothing h = absurd h
-    query_by (Some g) e scan.Every h = absurd h
-    query_by (Some g) e (scan.Row k) h = absurd h
+    query_by (Some g) e search.Nothing h = absurd h
+    query_by (Some g) e search.Every h = absurd h
+    query_by (Some g) e (search.Row k) h = absurd h
 
-    query_is : (x : Scan) → IsScanOf c q x → n.query_needs c m (seen_rows s table) q ks ≡ total x m s table index
+    query_is : (x : Search) → IsSearchOf c q x → n.query_needs c m (seen_rows s table) q ks ≡ total x m s table index
     query_is x h = query_by c.grid refl x h
 
   -- ---- any statement
-  pub reads_are : (st : Statement) (r : Reader) → IsReaderFor c st r → n.read_needs c ks (seen_rows s table) st ≡ total r.scan (locking_of r.modes) s table index
-  reads_are (Get k) r is = ap (λ need. need ∷ []) (get_is k table index) ∙ ap (λ x. total x (locking_of r.modes) s table index) (sym is.scan)
-  reads_are (Select q) r is = query_is n.reading q r.scan is.scan ∙ ap (λ m. total r.scan m s table index) (sym is.modes)
-  reads_are (Plan q) r is = query_is n.reading q r.scan is.scan ∙ ap (λ m. total r.scan m s table index) (sym is.modes)
-  reads_are (Filter shape) r is = query_is n.filtering (meeting shape) r.scan is.scan ∙ ap (λ m. total r.scan m s table index) (sym is.modes)
-  reads_are (DeleteWhere q) r is = query_is n.deleting q r.scan is.scan ∙ ap (λ m. total r.scan m s table index) (sym is.modes)
-  reads_are (Insert k shape) r is = absurd is.scan
-  reads_are (Update k shape) r is = absurd is.scan
-  reads_are (Delete k) r is = absurd is.scan
+  pub reads_are : (st : Statement) (r : Cursor) → IsScanFor c st r → n.read_needs c ks (seen_rows s table) st ≡ total r.search (locking_of r.modes) s table index
+  reads_are (Get k) r is = ap (λ need. need ∷ []) (get_is k table index) ∙ ap (λ x. total x (locking_of r.modes) s table index) (sym is.search)
+  reads_are (Select q) r is = query_is n.reading q r.search is.search ∙ ap (λ m. total r.search m s table index) (sym is.modes)
+  reads_are (Plan q) r is = query_is n.reading q r.search is.search ∙ ap (λ m. total r.search m s table index) (sym is.modes)
+  reads_are (Filter shape) r is = query_is n.filtering (meeting shape) r.search is.search ∙ ap (λ m. total r.search m s table index) (sym is.modes)
+  reads_are (DeleteWhere q) r is = query_is n.deleting q r.search is.search ∙ ap (λ m. total r.search m s table index) (sym is.modes)
+  reads_are (Insert k shape) r is = absurd is.search
+  reads_are (Update k shape) r is = absurd is.search
+  reads_are (Delete k) r is = absurd is.search
 
 -- what is the first need of the search is that of every statement that reads there
 pub first_is : (grants : List (Grant Key)) (s : ℕ) (table : List TableRow) (index : List CellRow) → IsStrictlySortedBy nat_cmp (keys_of table) → IsStrictlySortedBy cell_key_cmp (keys_of index)
-    → (r : Reader) (x : Scan) (o : Option (Key × Mode)) → r.scan ≡ x → option_map lock_need o ≡ first_unheld grants s (total x (locking_of r.modes) s table index) → IsFirstNeed grants s table index r o
+    → (r : Cursor) (x : Search) (o : Option (Key × Mode)) → r.search ≡ x → option_map lock_need o ≡ first_unheld grants s (total x (locking_of r.modes) s table index) → IsFirstNeed grants s table index r o
 first_is grants s table index rising index_rising r x o same e c st is ok agree codes =
     e ∙ (ap (λ y. first_unheld grants s (total y (locking_of r.modes) s table index)) (sym same)
     ∙ ap (first_unheld grants s) (sym (reads_are c ok s table index agree codes rising index_rising st r is)))

@@ -22,15 +22,14 @@ use Rattle.sg_modes.specs.declared.modes.Mode.TheVariants.{S, RangeSS}
 use Rattle.sg_cellrows.specs.CellTable.{CellKey, CellRow, cell_cmp, cell_key}
 use Rattle.sg_trace.specs.Laws.{AreSettings}
 use Rattle.sg_trace.specs.Needs.{Need, Lock, Locking, row_need, read_needs, reading, deleting, filtering}
-use Rattle.sg_scan.specs.declared.scans.Scan.{Scan}
-use Rattle.sg_scan.specs.declared.scans.Scan.TheVariants as scan
+use Rattle.sg_scan.specs.declared.searches.Search.{Search}
+use Rattle.sg_scan.specs.declared.searches.Search.TheVariants as search
 use Rattle.sg_scan.specs.declared.needs.Place.{Place}
 use Rattle.sg_scan.specs.declared.needs.Modes.{Modes}
-use Rattle.sg_scan.specs.declared.needs.Reader.{Reader}
 use Rattle.sg_stores.specs.Agreement.{SeenAgree, seen_rows}
 use Rattle.sg_stores.specs.Keys.{table_keys, index_keys, store_keys, AreCodes}
 use Rattle.sg_scan.specs.Hits.{is_reached, is_within, rows_behind}
-use Rattle.sg_scan.specs.Scans.{IsScanFor}
+use Rattle.sg_scan.specs.Scans.{IsSearchFor}
 use Rattle.sg_stores.specs.Held.{first_unheld, lock_need}
 
 abbrev pub locking_of : Modes → Locking
@@ -98,26 +97,32 @@ abbrev pub first_of_row : List TableRow → ℕ → Need
 first_of_row table k = row_or_gap (is_some (rows.version_at table k)) (key.Row k) (row_key (first_past nat_cmp k table))
 
 -- ---- cursors
+-- where a statement looks for rows, how it locks what it reads there, and how far it has come
+pub record Cursor : Type 0 where
+  pub search : Search
+  pub modes : Modes
+  pub place : Place
+
 -- the needs behind the cursor's place
-abbrev pub behind : Scan → Locking → Place → ℕ → List TableRow → List CellRow → List Need
-behind (scan.Row k) m at s table index = []
-behind scan.Nothing m at s table index = []
-behind scan.Every m at s table index = map (table_need m.range) (rows_until at.row table)
-behind (scan.Cells c) m at s table index = cells_behind m s c.ranges at.range at.cell index
+abbrev pub behind : Search → Locking → Place → ℕ → List TableRow → List CellRow → List Need
+behind (search.Row k) m at s table index = []
+behind search.Nothing m at s table index = []
+behind search.Every m at s table index = map (table_need m.range) (rows_until at.row table)
+behind (search.Cells c) m at s table index = cells_behind m s c.ranges at.range at.cell index
 
 -- all that the search needs
-abbrev pub total : Scan → Locking → ℕ → List TableRow → List CellRow → List Need
-total (scan.Row k) m s table index = first_of_row table k ∷ []
-total scan.Nothing m s table index = []
-total scan.Every m s table index = map (table_need m.range) table ++ Lock key.RowEnd m.range ∷ []
-total (scan.Cells c) m s table index = flat_map (range_whole m s index) c.ranges
+abbrev pub total : Search → Locking → ℕ → List TableRow → List CellRow → List Need
+total (search.Row k) m s table index = first_of_row table k ∷ []
+total search.Nothing m s table index = []
+total search.Every m s table index = map (table_need m.range) table ++ Lock key.RowEnd m.range ∷ []
+total (search.Cells c) m s table index = flat_map (range_whole m s index) c.ranges
 
 -- the place is one of the search
-abbrev pub IsPlace : Scan → Place → Type 0
-IsPlace (scan.Row k) at = Unit {0}
-IsPlace scan.Nothing at = Unit {0}
-IsPlace scan.Every at = Unit {0}
-IsPlace (scan.Cells c) at = AllByRecursion IsOrdered c.ranges × IfSome (slice_get c.ranges at.range) (λ p. IsInside p at.cell)
+abbrev pub IsPlace : Search → Place → Type 0
+IsPlace (search.Row k) at = Unit {0}
+IsPlace search.Nothing at = Unit {0}
+IsPlace search.Every at = Unit {0}
+IsPlace (search.Cells c) at = AllByRecursion IsOrdered c.ranges × IfSome (slice_get c.ranges at.range) (λ p. IsInside p at.cell)
 
 -- the pair, if there is one, is in the index, and the row, if there is one, in the table
 abbrev pub IsThere : Option CellKey → List CellRow → Type 0
@@ -128,24 +133,24 @@ IsRowThere above table = IfSome above (λ k. Has (table_keys table) (key.Row k))
 
 -- The last key that was passed is stored, so that no other session can put a key before it; behind the last range there
 -- is none.
-abbrev pub IsStored : Scan → Place → List TableRow → List CellRow → Type 0
-IsStored (scan.Row k) at table index = Unit {0}
-IsStored scan.Nothing at table index = Unit {0}
-IsStored scan.Every at table index = IsRowThere at.row table
-IsStored (scan.Cells c) at table index = IfSome (slice_get c.ranges at.range) (λ _. IsThere at.cell index)
+abbrev pub IsStored : Search → Place → List TableRow → List CellRow → Type 0
+IsStored (search.Row k) at table index = Unit {0}
+IsStored search.Nothing at table index = Unit {0}
+IsStored search.Every at table index = IsRowThere at.row table
+IsStored (search.Cells c) at table index = IfSome (slice_get c.ranges at.range) (λ _. IsThere at.cell index)
 
 -- where a search begins
 abbrev pub start_place : Place
 start_place = record { range = 0; cell = None; row = None }
 
 -- all needs behind the cursor are met by what the session holds
-pub record IsPassed (grants : List (Grant Key)) (s : ℕ) (table : List TableRow) (index : List CellRow) (r : Reader) : Type 0 where
-  pub place : IsPlace r.scan r.place
-  pub there : IsStored r.scan r.place table index
-  pub met : first_unheld grants s (behind r.scan (locking_of r.modes) r.place s table index) ≡ None
+pub record IsPassed (grants : List (Grant Key)) (s : ℕ) (table : List TableRow) (index : List CellRow) (r : Cursor) : Type 0 where
+  pub place : IsPlace r.search r.place
+  pub there : IsStored r.search r.place table index
+  pub met : first_unheld grants s (behind r.search (locking_of r.modes) r.place s table index) ≡ None
 
 -- whatever the state: a search that has not begun
-abbrev pub IsFresh : Reader → Type 0
+abbrev pub IsFresh : Cursor → Type 0
 IsFresh r = (grants : List (Grant Key)) (s : ℕ) (table : List TableRow) (index : List CellRow) → IsPassed grants s table index r
 
 -- ---- what the trace says of the same
@@ -155,14 +160,14 @@ locking_for (Filter shape) = filtering
 locking_for (DeleteWhere q) = deleting
 locking_for other = reading
 
--- the reader is that of the statement
-pub record IsReaderFor (c : Settings) (st : Statement) (r : Reader) : Type 0 where
-  pub scan : IsScanFor c st r.scan
+-- the cursor is that of the statement
+pub record IsScanFor (c : Settings) (st : Statement) (r : Cursor) : Type 0 where
+  pub search : IsSearchFor c st r.search
   pub modes : locking_of r.modes ≡ locking_for st
 
 -- Of the needs of any statement that reads here, this is the first that isn't met, where the rows and their cells
 -- agree as the session sees them.
-abbrev pub IsFirstNeed : List (Grant Key) → ℕ → List TableRow → List CellRow → Reader → Option (Key × Mode) → Type 0
+abbrev pub IsFirstNeed : List (Grant Key) → ℕ → List TableRow → List CellRow → Cursor → Option (Key × Mode) → Type 0
 IsFirstNeed grants s table index r need =
-    (c : Settings) (st : Statement) → IsReaderFor c st r → AreSettings c → SeenAgree c s table index → AreCodes index
+    (c : Settings) (st : Statement) → IsScanFor c st r → AreSettings c → SeenAgree c s table index → AreCodes index
     → option_map lock_need need ≡ first_unheld grants s (read_needs c (store_keys table index) (seen_rows s table) st)

@@ -8,11 +8,12 @@ mod loads;
 mod needs;
 mod queries;
 mod scans;
+mod searches;
 mod walks;
 
 pub use loads::{Loaded, load};
-pub use needs::{Modes, Place, Reader};
-pub use scans::{CellScan, Found, Scan};
+pub use scans::Scan;
+pub use searches::Found;
 
 #[cfg(test)]
 mod tests;

@@ -1,32 +1,28 @@
-ghost use Rattle.std.specs.Prelude.{◌≡◌, ◌≤◌, ◌∷◌, [], ◌++◌, cond, is_some, map, take, slice_get, IfOk, IfSome, Some, None};
+ghost use Rattle.std.specs.Prelude.{◌≡◌, ◌∷◌, [], ◌++◌, is_some, map, slice_get, IfSome, None};
 ghost use Rattle.std.specs.List.{flat_map};
 ghost use Rattle.std.specs.Option.{option_map};
 ghost use Rattle.sg_cells.specs.declared.keys.Key.TheVariants as key;
-ghost use Rattle.sg_plain.specs.Sat.{IsSoundStatement};
+ghost use Rattle.sg_scan.specs.declared.searches.Search.{Search};
 ghost use Rattle.sg_versions.specs.Versions.{visible};
 ghost use Rattle.sg_cellrows.specs.CellTable.{version_at};
-ghost use Rattle.sg_trace.specs.Laws.{AreSettings};
 ghost use Rattle.sg_trace.specs.Needs.{Lock};
-ghost use Rattle.sg_scan.specs.Scans.{Asks};
 ghost use Rattle.sg_stores.specs.Held.{first_unheld, lock_need};
-ghost use Rattle.sg_scan.specs.Cursors.{locking_of, pair_needs, range_whole, needs_upto, cells_behind, IsInside, IsOrdered, IsPlace, IsThere, IsRowThere, rows_until, table_need, IsPassed, IsReaderFor, IsFirstNeed, first_of_row, IsFresh, locking_for};
+ghost use Rattle.sg_scan.specs.Cursors.{locking_of, pair_needs, range_whole, needs_upto, cells_behind, IsInside, IsOrdered, IsPlace, IsThere, IsRowThere, rows_until, table_need, first_of_row, locking_for};
 
 use crate::lists::next_row;
-use crate::scans::{CellScan, Scan};
+use crate::searches::CellSearch;
 use crate::walks::{key_behind, next_in};
 use sg_cellrows::CellRows;
-use sg_cells::{Cell, Key, Settings};
+use sg_cells::{Cell, Key};
 use sg_locks::Locks;
 use sg_modes::{Mode, Session};
 use sg_plain::Statement;
 use sg_rows::Rows;
-use sg_shape::CellJudge;
 use sg_stores::is_met;
-use std::alloc::{AllocError, Global};
 
 /// How a search locks: the keys of its ranges, and the rows that it sees there, if it locks them.
 #[derive(Clone, Copy, PartialEq, Eq, Debug)]
-pub struct Modes {
+pub(crate) struct Modes {
     /// On each key of a range, and on the first one past it.
     pub range: Mode,
     /// On each row whose cell it sees in a range.
@@ -35,7 +31,7 @@ pub struct Modes {
 
 /// How far a search has come.
 #[derive(Clone, Copy, Debug)]
-pub struct Place {
+pub(crate) struct Place {
     /// How many ranges lie behind it.
     pub range: usize,
     /// In the range at hand, the last pair behind it.
@@ -44,75 +40,8 @@ pub struct Place {
     pub row: Option<u32>,
 }
 
-/// What a statement reads, how it locks that, and how far it has come.
-#[derive(Drop)]
-pub struct Reader {
-    /// Where it looks for rows.
-    pub scan: Scan,
-    /// How it locks them.
-    pub modes: Modes,
-    /// The needs behind this place were met.
-    pub place: Place,
-}
-
-impl Reader {
-    /// What the statement reads: a get, a select, a plan, a filter or a delete of the rows that satisfy a
-    /// query. The window is 1 to 8192. `AllocError` is want of memory.
-    pub fn of<C: CellJudge>(
-        alloc: Global,
-        judge: &C,
-        settings: &Settings,
-        statement: &Statement,
-    ) -> Result<Reader, AllocError>
-        requires asks { Asks statement.now }
-        requires sound { IsSoundStatement statement.now }
-        requires least { 1 ≤ settings.now.window }
-        requires most { settings.now.window ≤ 8192 }
-        ensures reader { IfOk result (IsReaderFor settings.now statement.now) }
-        ensures fresh { AreSettings settings.now → IfOk result IsFresh }
-    {
-        let scan = Scan::of(alloc, judge, settings, statement)?;
-        Ok(Reader {
-            scan,
-            modes: modes_of(statement),
-            place: Place {
-                range: 0,
-                cell: None,
-                row: None,
-            },
-        })
-    }
-
-    /// The first lock that the statement needs to read and the session hasn't: `None` exactly where it has
-    /// them all. All needs behind the reader's place must be met. It takes no memory.
-    ///
-    /// A call goes over the needs that were met since the last one, each in a logarithm of the table.
-    pub fn need(
-        &mut self,
-        s: Session,
-        rows: &Rows,
-        cells: &CellRows,
-        locks: &Locks<Key>,
-    ) -> Option<(Key, Mode)>
-        requires { IsPassed locks.now.grants s rows.now.rows cells.now.rows self.old }
-        ensures need { IsFirstNeed locks.now.grants s rows.now.rows cells.now.rows self.old result }
-        ensures passed { IsPassed locks.now.grants s rows.now.rows cells.now.rows self.new }
-        ensures scan { self.new.scan ≡ self.old.scan }
-        ensures modes { self.new.modes ≡ self.old.modes }
-    {
-        let _rows = rows.first_key();
-        let _cells = cells.first_at((Cell::outside(), 0));
-        match &self.scan {
-            Scan::Row(key) => need_of_row(*key, s, rows, locks),
-            Scan::Nothing => None,
-            Scan::Every => need_of_table(&mut self.place.row, self.modes.range, s, rows, locks),
-            Scan::Cells(scan) => scan.need(&mut self.place, &self.modes, s, cells, locks),
-        }
-    }
-}
-
 /// How the statement locks what it reads.
-fn modes_of(statement: &Statement) -> Modes
+pub(crate) fn modes_of(statement: &Statement) -> Modes
     ensures { locking_of result ≡ locking_for statement.now }
 {
     match statement {
@@ -132,7 +61,12 @@ fn modes_of(statement: &Statement) -> Modes
 }
 
 /// Of a get: the row, or the gap in which it would stand.
-fn need_of_row(key: u32, s: Session, rows: &Rows, locks: &Locks<Key>) -> Option<(Key, Mode)>
+pub(crate) fn need_of_row(
+    key: u32,
+    s: Session,
+    rows: &Rows,
+    locks: &Locks<Key>,
+) -> Option<(Key, Mode)>
     ensures { option_map lock_need result ≡ first_unheld locks.now.grants s (first_of_row rows.now.rows key ∷ []) }
 {
     if rows.present(key) {
@@ -143,7 +77,7 @@ fn need_of_row(key: u32, s: Session, rows: &Rows, locks: &Locks<Key>) -> Option<
 }
 
 /// Of a table without an index: each row, and the end of the rows.
-fn need_of_table(
+pub(crate) fn need_of_table(
     above: &mut Option<u32>,
     range: Mode,
     s: Session,
@@ -166,9 +100,9 @@ fn need_of_table(
     unmet(locks, s, Key::RowEnd, range)
 }
 
-impl CellScan {
+impl CellSearch {
     /// Of all ranges, one after another.
-    fn need(
+    pub(crate) fn need(
         &self,
         place: &mut Place,
         modes: &Modes,
@@ -176,11 +110,11 @@ impl CellScan {
         cells: &CellRows,
         locks: &Locks<Key>,
     ) -> Option<(Key, Mode)>
-        requires place { IsPlace (Scan.Cells self.now) place.old }
+        requires place { IsPlace (Search.Cells self.now) place.old }
         requires there { IfSome (slice_get self.now.ranges place.old.range) (λ _. IsThere place.old.cell cells.now.rows) }
         requires met { first_unheld locks.now.grants s (cells_behind (locking_of modes.now) s self.now.ranges place.old.range place.old.cell cells.now.rows) ≡ None }
         ensures need { option_map lock_need result ≡ first_unheld locks.now.grants s (flat_map (range_whole (locking_of modes.now) s cells.now.rows) self.now.ranges) }
-        ensures place { IsPlace (Scan.Cells self.now) place.new }
+        ensures place { IsPlace (Search.Cells self.now) place.new }
         ensures there { IfSome (slice_get self.now.ranges place.new.range) (λ _. IsThere place.new.cell cells.now.rows) }
         ensures met { first_unheld locks.now.grants s (cells_behind (locking_of modes.now) s self.now.ranges place.new.range place.new.cell cells.now.rows) ≡ None }
     {

@@ -5,7 +5,7 @@ use Rattle.sg_scan.specs.Cursors.{locking_of}
 use Rattle.sg_stores.proofs.Helds.{not_none, is_none_of}
 use Rattle.sg_stores.proofs.Lists.{around}
 use Rattle.sg_scan.proofs.Steps.{part_met, place_met, ranges_found, next_met, ranges_last, place_start, none_there}
-use Rattle.sg_scan.proofs.scans.CellScan.need.Goals as goal
+use Rattle.sg_scan.proofs.searches.CellSearch.need.Goals as goal
 
 pub need_in-need-requires-clause-met : goal.need_in-need-requires-clause-met
 need_in-need-requires-clause-met c =
