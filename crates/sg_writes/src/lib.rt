@@ -10,3 +10,8 @@ mod writes;
 
 pub use changes::{Change, ChangeBack, ChangePlace};
 pub use needs::Act;
+
+#[cfg(test)]
+mod finish_tests;
+#[cfg(test)]
+mod need_tests;
