@@ -197,7 +197,7 @@ module _ (w : Stage) (labels : List Label) (entries : List Entry) (seats : List 
         by_pending None p q h k = absurd h
         by_pending (Some r) p q h k = record {
           cost = h.cost ∙ (k.cost ∙ ap cost (sym (held_same w ok.events s st a is_open.open_one s)));
-          pending = subst (λ o. IfSome o (λ (p : Pending). IsPending w (e ∷ ok.events) table' index' grants s p.statement p.reader p.work)) (sym h.pending) tt;
+          pending = subst (λ o. IfSome o (λ (p : Pending). IsPending w (e ∷ ok.events) table' index' grants s p.statement p.scan p.work p.delivered)) (sym h.pending) tt;
           statement_room = subst (λ o. IfSome o (λ (p : Pending). 1 ≤ q.statements.spare)) (sym h.pending) tt;
           answer_room = subst (λ o. IfSome o (λ (p : Pending). 1 ≤ q.answers.spare)) (sym h.pending) tt;
         }
@@ -225,7 +225,7 @@ module _ (w : Stage) (labels : List Label) (entries : List Entry) (seats : List 
           ties = ties;
           waits_are = ok.waits_are;
           kept = seats_on w ok.events seats (long w labels entries seats table index grants standing live room entry_room ok) ok.run.shows.seats ok.staged e legal i mine x table index grants table' index' grants
-              (λ u is ne st reader h. passed_stays w ok.staged u is e ok.events ne table index grants before table' index' grants then st reader h.reader_for h.passed)
+              (λ u is ne st scan h. passed_stays w ok.staged u is e ok.events ne table index grants before table' index' grants then st scan h.scan_for h.passed)
               (λ u is ne st change h. behind_stays w ok.staged u is e ok.events ne table index grants before table' index' grants then change h.behind) ok.kept now_kept inside;
           seats = length_map (set seats i x) ∙ (length-set seats i x ∙ long w labels entries seats table index grants standing live room entry_room ok);
           live_is = counts;

@@ -144,7 +144,7 @@ module _ (w : Stage) (labels : List Label) (entries : List Entry) (seats : List 
         opened None (Some b) h k = absurd h
         opened (Some a) (Some b) h k = record {
           cost = h.cost ∙ (k.cost ∙ ap cost (alike.held s));
-          pending = subst (λ o. IfSome o (λ (p : Pending). IsPending w (e ∷ ok.events) table index grants s p.statement p.reader p.work)) (sym h.pending) (record { sound = sound; search = tt; work = tt });
+          pending = subst (λ o. IfSome o (λ (p : Pending). IsPending w (e ∷ ok.events) table index grants s p.statement p.scan p.work p.delivered)) (sym h.pending) (record { sound = sound; search = tt; work = tt; refined = tt });
           statement_room = subst (λ o. IfSome o (λ (p : Pending). 1 ≤ b.statements.spare)) (sym h.pending) h.statement_room;
           answer_room = subst (λ o. IfSome o (λ (p : Pending). 1 ≤ b.answers.spare)) (sym h.pending) h.answer_room;
         }
@@ -157,7 +157,7 @@ module _ (w : Stage) (labels : List Label) (entries : List Entry) (seats : List 
       ties = ties_alike w.settings (state w ok.events) (state w (e ∷ ok.events)) table index grants alike ok.ties;
       waits_are = ok.waits_are;
       kept = seats_on w ok.events seats (long w labels entries seats table index grants standing live room entry_room ok) ok.run.shows.seats ok.staged e run.legal i mine x table index grants table index grants
-          (λ u is ne st reader h. h.passed) (λ u is ne st change h. h.behind) ok.kept (kept_after changes) inside;
+          (λ u is ne st scan h. h.passed) (λ u is ne st change h. h.behind) ok.kept (kept_after changes) inside;
       seats = length_map (set seats i x) ∙ (length-set seats i x ∙ long w labels entries seats table index grants standing live room entry_room ok);
       live_is = counts;
       labels_fit = fits;

@@ -215,7 +215,7 @@ module _ (w : Stage) (labels : List Label) (entries : List Rattle.sg_plain.specs
         run = run;
         ties = ties_alike w.settings (state w ok.events) (state w (e ∷ ok.events)) table index grants (begin_alike w labels entries seats s i session within_is mine x ok.events ok.run idle_now) ok.ties;
         waits_are = ok.waits_are;
-        kept = seats_on w ok.events seats long ok.run.shows.seats ok.staged e run.legal i mine x table index grants table index grants (λ u is ne st reader h. h.passed) (λ u is ne st change h. h.behind) ok.kept own within_is;
+        kept = seats_on w ok.events seats long ok.run.shows.seats ok.staged e run.legal i mine x table index grants table index grants (λ u is ne st scan h. h.passed) (λ u is ne st change h. h.behind) ok.kept own within_is;
         seats = length_map (set seats i x) ∙ (length-set seats i x ∙ long);
         live_is = counts;
         labels_fit = fits;

@@ -1,7 +1,7 @@
 -- A wait of an engine, and the victims that it makes.
 use Rattle.std.specs.Prelude.{map, is_some, ◌-◌, IfSome, slice_get, not, ◌&&◌}
 use Rattle.std.specs.Option.{option_map}
-use Rattle.std.proofs.Common.{◌≡◌, ◌≢◌, ◌↔◌, ℕ, zero, suc, ◌+◌, ◌≤◌, ◌<◌, Bool, true, false, cond, List, [], ◌∷◌, ◌++◌, length, get_or, set, eqb, Option, Some, None, refl, sym, ap, ◌∙◌, subst, arith, eqb-true}
+use Rattle.std.proofs.Common.{◌≡◌, ◌≢◌, ◌↔◌, ℕ, zero, suc, ◌+◌, ◌≤◌, ◌<◌, Bool, true, false, cond, List, [], ◌∷◌, ◌++◌, length, get_or, set, eqb, Option, Some, None, inl, inr, refl, sym, ap, ◌∙◌, subst, arith, eqb-true}
 use Rattle.std.proofs.lemmas.Bool.{eq-eqb, eqb-false}
 use Rattle.std.proofs.lemmas.List.{length-set, map-set, append_assoc}
 use Rattle.std.proofs.lemmas.Option.{slice_get-get_or}
@@ -43,7 +43,7 @@ use Rattle.sg_engine.specs.declared.shared.Running.{Running}
 use Rattle.sg_engine.specs.declared.shared.Seat.{Seat}
 use Rattle.sg_engine.specs.Shown.{Shown, Seated, Refining, empty_seat, seated, running_of, IsRunOf, job_in, no_job}
 use Rattle.sg_engine.specs.Inside.{seat_of, running_in, job_of, shown_in}
-use Rattle.sg_engine.specs.Phases.{AreLeft, last_wish, answer_of, IsNameOf, IsWork, IsSearching, IsPending, IsRunning, IsSeat}
+use Rattle.sg_engine.specs.Phases.{AreLeft, HasRefinedAll, last_wish, answer_of, IsNameOf, IsWork, IsSearching, IsPending, IsRunning, IsSeat}
 use Rattle.sg_engine.specs.Ends.{quit}
 use Rattle.sg_engine.specs.Ties.{Ties, IsEngine, is_running, running_count}
 use Rattle.sg_engine.specs.Waiting.{Victims, victims_of, cycle_of, HasWaited, cost_in, cost_at, rank_in, wishing}
@@ -92,17 +92,25 @@ module _ (w : Stage) (es es' : List Event) (same : state w es ≡ state w es') (
       guarded = λ reads. guarded_alike st (h.guarded reads);
     }
 
-    pending_alike : (p : Pending) → IsPending w es table index grants s p.statement p.reader p.work → IsPending w es' table index grants s p.statement p.reader p.work
+    refined_alike : (st : Statement) (it : Work) (delivered : Bool) → HasRefinedAll w es s st it delivered → HasRefinedAll w es' s st it delivered
+    refined_alike st work.Unread delivered h = tt
+    refined_alike st (work.Awaits found job) delivered h = tt
+    refined_alike st (work.Refined found done) delivered h = tt
+    refined_alike st (work.Writes change) delivered (inl had) = inl had
+    refined_alike st (work.Writes change) delivered (inr none) = inr (λ reads. subst (λ (z : State). AreLeft w.settings (view z s) st []) same (none reads))
+
+    pending_alike : (p : Pending) → IsPending w es table index grants s p.statement p.scan p.work p.delivered → IsPending w es' table index grants s p.statement p.scan p.work p.delivered
     pending_alike p h = record {
       sound = h.sound;
-      search = if_some (IsSearching w es table index grants s p.statement) (IsSearching w es' table index grants s p.statement) p.reader (λ reader _ x. record { reader_for = x.reader_for; passed = x.passed }) h.search;
+      search = if_some (IsSearching w es table index grants s p.statement) (IsSearching w es' table index grants s p.statement) p.scan (λ scan _ x. record { scan_for = x.scan_for; passed = x.passed }) h.search;
       work = work_alike p.statement p.work h.work;
+      refined = refined_alike p.statement p.work p.delivered h.refined;
     }
 
     running_alike : (r : Running) → IsRunning w es table index grants s r → IsRunning w es' table index grants s r
     running_alike r h = record {
       cost = h.cost ∙ ap (λ (z : State). cost (z.of s).held) same;
-      pending = if_some (λ (p : Pending). IsPending w es table index grants s p.statement p.reader p.work) (λ (p : Pending). IsPending w es' table index grants s p.statement p.reader p.work) r.pending (λ p _ x. pending_alike p x) h.pending;
+      pending = if_some (λ (p : Pending). IsPending w es table index grants s p.statement p.scan p.work p.delivered) (λ (p : Pending). IsPending w es' table index grants s p.statement p.scan p.work p.delivered) r.pending (λ p _ x. pending_alike p x) h.pending;
       statement_room = h.statement_room;
       answer_room = h.answer_room;
     }
@@ -166,7 +174,7 @@ module _ (w : Stage) (es : List Event) (labels : List Label) (entries : List Ent
       };
       ties = subst (λ (y : State). Ties w.settings y table index grants) same_state m.ties;
       waits_are = λ u is. ap (λ ws. blockers_of ws u) standing_is ∙ waits_more es standing m.waits_are s k mode b none u is;
-      kept = seats_on w es seats m.long m.shows.seats m.staged e legal i mine (wishing k mode d) table index grants table index grants (λ u is ne st reader h. h.passed) (λ u is ne st change h. h.behind) m.kept own_after within;
+      kept = seats_on w es seats m.long m.shows.seats m.staged e legal i mine (wishing k mode d) table index grants table index grants (λ u is ne st scan h. h.passed) (λ u is ne st change h. h.behind) m.kept own_after within;
       long = length-set seats i (wishing k mode d) ∙ m.long;
       live_is = sym same_count;
       labels_fit = fits;

@@ -1,7 +1,7 @@
 -- A seat that gets the result of the job that it waits for.
 use Rattle.std.specs.Prelude.{IfSome, OnOk, OnErr, Result, Ok, Err}
 use Rattle.std.specs.Option.{option_map}
-use Rattle.std.proofs.Common.{◌≡◌, ℕ, ◌+◌, ◌≤◌, ◌<◌, true, false, List, length, get_or, set, Option, Some, None, refl, sym, ap, ◌∙◌, subst}
+use Rattle.std.proofs.Common.{◌≡◌, ℕ, ◌+◌, ◌≤◌, ◌<◌, true, false, List, length, get_or, set, Option, Some, None, inl, refl, sym, ap, ◌∙◌, subst}
 use Rattle.std.proofs.lemmas.List.{set-get_or}
 use Rattle.sg_locks.specs.Grants.{Grant}
 use Rattle.sg_cells.specs.declared.keys.Key.{Key}
@@ -22,7 +22,7 @@ use Rattle.sg_engine.specs.declared.shared.Seat.{Seat}
 use Rattle.sg_engine.specs.Shown.{Shown, Seated, Refining}
 use Rattle.sg_engine.specs.Shown as shown
 use Rattle.sg_engine.specs.Inside.{seat_of, job_of, job_in_running, job_in_pending, job_in_work, is_writing, running_in, shown_in, was_delivered}
-use Rattle.sg_engine.specs.Phases.{IsPending, IsRunning, IsSeat, IsWork}
+use Rattle.sg_engine.specs.Phases.{HasRefinedAll, IsPending, IsRunning, IsSeat, IsWork}
 use Rattle.sg_engine.specs.Ties.{IsEngine}
 use Rattle.sg_engine.specs.Steps.{IsSameRun, SetsJob}
 use Rattle.sg_engine.specs.Strangers.{refined, with_result, running_with, delivered}
@@ -83,12 +83,18 @@ module _ (done : Refined) where
     work_kept st (work.Refined found it) h k = absurd (cc)
     work_kept st (work.Writes change) h k = absurd (cc)
 
+    all_refined : (st : Statement) (it : Work) → HasRefinedAll w es s st (refined done it) true
+    all_refined st work.Unread = tt
+    all_refined st (work.Awaits found job) = tt
+    all_refined st (work.Refined found it) = tt
+    all_refined st (work.Writes change) = inl refl
+
     abbrev Keeps : Option Pending → Type 0
-    Keeps o = IfSome o (λ (p : Pending). IsPending w es table index grants s p.statement p.reader p.work)
+    Keeps o = IfSome o (λ (p : Pending). IsPending w es table index grants s p.statement p.scan p.work p.delivered)
 
     pending_kept : (o : Option Pending) → (job_in_pending o).job ≡ Some done.job → Keeps o → Keeps (option_map (with_result done) o)
     pending_kept None h k = tt
-    pending_kept (Some p) h k = record { sound = k.sound; search = k.search; work = work_kept p.statement p.work h k.work }
+    pending_kept (Some p) h k = record { sound = k.sound; search = k.search; work = work_kept p.statement p.work h k.work; refined = all_refined p.statement p.work }
 
     room_kept : (Q : Type 0) (o : Option Pending) → IfSome o (λ (p : Pending). Q) → IfSome (option_map (with_result done) o) (λ (p : Pending). Q)
     room_kept Q None k = tt

@@ -194,8 +194,8 @@ module _ (w : Stage) (labels : List Label) (entries : List Entry) (seats : List 
             subst (λ o. IfSome o (IsRunning w ok.events table index grants s)) here.is_running
             (own w labels entries seats table index grants standing live room entry_room ok s i session below mine d there).running
 
-        pending_kept : IsPending w ok.events table index grants s here.pending.statement here.pending.reader here.pending.work
-        pending_kept = subst (λ o. IfSome o (λ (p : Pending). IsPending w ok.events table index grants s p.statement p.reader p.work)) here.is_pending running_kept.pending
+        pending_kept : IsPending w ok.events table index grants s here.pending.statement here.pending.scan here.pending.work here.pending.delivered
+        pending_kept = subst (λ o. IfSome o (λ (p : Pending). IsPending w ok.events table index grants s p.statement p.scan p.work p.delivered)) here.is_pending running_kept.pending
 
         writing : IsWriting w ok.events table index grants s here.pending.statement change
         writing = subst (IsWork w ok.events table index grants s here.pending.statement) here.is_change pending_kept.work

@@ -1,16 +1,15 @@
 -- An engine after a session was given a key.
-use Rattle.std.specs.Prelude.{map, IfSome, is_some, filter}
+use Rattle.std.specs.Prelude.{map, IfSome, filter}
 use Rattle.std.specs.Option.{option_map}
-use Rattle.std.proofs.Common.{◌≡◌, ◌≢◌, ℕ, suc, ◌+◌, ◌≤◌, ◌<◌, ◌^◌, Bool, true, false, cond, eqb, List, [], ◌∷◌, ◌++◌, length, get_or, set, Option, Some, None, refl, sym, ap, ◌∙◌, subst, arith}
+use Rattle.std.proofs.Common.{◌≡◌, ℕ, ◌+◌, ◌≤◌, ◌<◌, ◌^◌, Bool, true, false, cond, eqb, List, [], ◌∷◌, ◌++◌, length, get_or, set, Option, Some, None, refl, sym, ap, ◌∙◌, subst, arith}
 use mathlib.Core.Bool.{true≢false}
 use Rattle.std.proofs.Math.Seq.{map-set_same}
 use Rattle.sg_cells.specs.declared.keys.Key.{Key}
 use Rattle.sg_locks.specs.Grants.{Grant, has_grant, is_same_mode, AddsGrant, IsUnblocked}
 use Rattle.sg_locks.specs.Grants as locks
 use Rattle.sg_modes.specs.declared.modes.Mode.{Mode}
-use Rattle.sg_modes.specs.declared.modes.Mode.TheVariants.{RangeIN}
 use Rattle.sg_modes.specs.Sessions.{IsSession, AreSessions, has_session}
-use Rattle.sg_modes.specs.Waits.{Wait, blockers_of}
+use Rattle.sg_modes.specs.Waits.{Wait}
 use Rattle.sg_plain.specs.declared.statements.Statement.{Statement}
 use Rattle.sg_plain.specs.Serial.{Entry}
 use Rattle.sg_rows.specs.Table.{TableRow}
@@ -18,31 +17,30 @@ use Rattle.sg_cellrows.specs.CellTable.{CellRow}
 use Rattle.sg_trace.specs.declared.labels.Label.{Label}
 use Rattle.sg_trace.specs.declared.labels.Label.TheVariants as label
 use Rattle.sg_trace.specs.Keys.{is_write, meets}
-use Rattle.sg_trace.specs.Needs.{Need, Lock, New, Held, is_met, first_unmet, holds_by}
+use Rattle.sg_trace.specs.Needs.{Need, Lock, Held, is_met, first_unmet, holds_by}
 use Rattle.sg_trace.specs.Traces.{Stage, Event, Begin, Ask, Take, Put, Local, State, state, after, session_of, label_of, labels_of, IsPresent, view}
 use Rattle.sg_trace.specs.Traces as traces
-use Rattle.sg_trace.specs.Legal.{IsStage, IsLegal, IsSettled, Takes, Puts, IsAct, IsOpen, needs_of, conflict, cost, waits, journal}
+use Rattle.sg_trace.specs.Legal.{IsLegal, IsSettled, Takes, IsAct, IsOpen, needs_of, cost, waits, journal}
 use Rattle.sg_stores.specs.Held.{key_cmp}
 use Rattle.sg_laws.specs.Reading.{IsLive}
 use Rattle.sg_laws.proofs.Kept.{Good, legal_good, lists_of, needs_good, unmet_has, takes_for}
 use Rattle.sg_laws.proofs.Needs.{NeedOk}
-use Rattle.sg_writes.specs.declared.changes.Change.{Change}
 use Rattle.sg_engine.specs.declared.shared.Pending.{Pending}
 use Rattle.sg_engine.specs.declared.shared.Running.{Running}
 use Rattle.sg_engine.specs.declared.shared.Seat.{Seat}
-use Rattle.sg_engine.specs.Shown.{Shown, Seated, seat_in, seated, IsRunOf}
+use Rattle.sg_engine.specs.Shown.{Shown, Seated, seated, IsRunOf}
 use Rattle.sg_engine.specs.Inside.{seat_of, running_in, job_of, job_in_running, shown_in}
-use Rattle.sg_engine.specs.Phases.{IsPending, IsRunning, IsSearching, IsSeat, IsWriting}
+use Rattle.sg_engine.specs.Phases.{IsPending, IsRunning, IsSearching, IsSeat}
 use Rattle.sg_engine.specs.Nexts.{IsNext, IsFree, cost_with, with_key, counted}
 use Rattle.sg_engine.specs.Ties.{IsCoded, Ties, IsEngine, running_count}
 use Rattle.sg_engine.proofs.Events.{with_same, count_labels}
-use Rattle.sg_engine.proofs.Seats.{seat_at, length_map}
+use Rattle.sg_engine.proofs.Seats.{seat_at}
 use Rattle.sg_engine.proofs.Begins.{seats_after, long, within_is}
 use Rattle.sg_engine.proofs.Kept.{if_some, seats_on, own_seat}
 use Rattle.sg_engine.proofs.Takes.{take_ties}
 use Rattle.sg_engine.proofs.Passes.{Side}
 use Rattle.sg_engine.proofs.Stays.{passed_stays, behind_stays}
-use Rattle.sg_engine.proofs.Conflicts.{same_is, held_some, held_back, conflict_is, unblocked}
+use Rattle.sg_engine.proofs.Conflicts.{held_back, conflict_is, unblocked}
 use Rattle.sg_engine.proofs.Replied.{coded_key}
 use Rattle.sg_engine.proofs.Runs.{appends_by}
 use Rattle.sg_engine.proofs.Standing.{cost_more}
@@ -176,7 +174,7 @@ module _ (w : Stage) (labels : List Label) (entries : List Entry) (seats : List 
         ties = ties';
         waits_are = λ u is. ok.waits_are u is ∙ sym (waits_is u);
         kept = seats_on w ok.events seats (long w labels entries seats table index grants standing live room entry_room ok) ok.run.shows.seats ok.staged e legal i (mine ∙ sym by) x table index grants table' index' grants'
-            (λ u is ne st reader h. passed_stays w ok.staged u is e ok.events ne table index grants side table' index' grants' side' st reader h.reader_for h.passed)
+            (λ u is ne st scan h. passed_stays w ok.staged u is e ok.events ne table index grants side table' index' grants' side' st scan h.scan_for h.passed)
             (λ u is ne st change h. behind_stays w ok.staged u is e ok.events ne table index grants side table' index' grants' side' change h.behind) ok.kept
             (subst (λ u. IsSeat w (e ∷ ok.events) table' index' grants' u x) (sym by) own) within;
         seats = ap (λ (xs : List Seated). length xs) seats_same ∙ ok.seats;
@@ -238,11 +236,11 @@ module _ (w : Stage) (labels : List Label) (entries : List Entry) (seats : List 
       running_after None h = tt
       running_after (Some r) h = record {
         cost = ap (cost_with m) h.cost ∙ (sym (cost_more k m (z.of s).held) ∙ ap (λ (y : Local). cost y.held) (sym same_local));
-        pending = if_some (λ (p : Pending). IsPending w ok.events table index grants s p.statement p.reader p.work) (λ (p : Pending). IsPending w (Take s k m ∷ ok.events) table index new s p.statement p.reader p.work) r.pending
+        pending = if_some (λ (p : Pending). IsPending w ok.events table index grants s p.statement p.scan p.work p.delivered) (λ (p : Pending). IsPending w (Take s k m ∷ ok.events) table index new s p.statement p.scan p.work p.delivered) r.pending
             (λ p _ q. pending_own w ok.staged (Take s k m) ok.events legal_take s is_open.live live' (ap (λ (y : Local). y.begun) same_local) (ap (λ (y : Local). y.done) same_local) (ap (λ (y : Local). traces.effects y.done z.rows) same_local)
-            table index grants table index new (λ st' change h'. held_more s k m grants new adds s table index change h'.behind) p.statement p.reader p.reader p.work
-            (λ search. if_some (IsSearching w ok.events table index grants s p.statement) (IsSearching w (Take s k m ∷ ok.events) table index new s p.statement) p.reader
-            (λ reader _ y. record { reader_for = y.reader_for; passed = passed_more s k m grants new adds s table index reader y.passed }) search) q) h.pending;
+            table index grants table index new (λ st' change h'. held_more s k m grants new adds s table index change h'.behind) p.statement p.scan p.scan p.work p.delivered
+            (λ search. if_some (IsSearching w ok.events table index grants s p.statement) (IsSearching w (Take s k m ∷ ok.events) table index new s p.statement) p.scan
+            (λ scan _ y. record { scan_for = y.scan_for; passed = passed_more s k m grants new adds s table index scan y.passed }) search) q) h.pending;
         statement_room = h.statement_room;
         answer_room = h.answer_room;
       }

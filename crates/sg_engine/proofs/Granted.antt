@@ -1,19 +1,13 @@
 -- A session that is given a key: its seat, what it has met so far, and what is shown.
 use Rattle.std.specs.Prelude.{IfSome, IsSome}
-use Rattle.std.specs.Option.{option_map}
 use Rattle.std.specs.List.{AllByRecursion}
-use Rattle.std.proofs.Common.{◌≡◌, ◌≢◌, ℕ, suc, ◌+◌, ◌≤◌, ◌<◌, Bool, true, false, ◌&&◌, ◌||◌, not, cond, eqb, List, [], ◌∷◌, ◌++◌, length, get_or, set, take, slice_get, Option, Some, None, refl, sym, ap, ◌∙◌, subst, arith}
-use mathlib.Core.Bool.{true≢false}
-use Rattle.std.proofs.Math.Seq.{map-set_same}
+use Rattle.std.proofs.Common.{◌≡◌, ℕ, suc, Bool, true, false, cond, List, [], ◌∷◌, length, take, slice_get, Option, Some, None, inl, inr, refl, sym, ap, ◌∙◌, subst}
 use Rattle.std.proofs.lemmas.Bool.{or_right}
-use Rattle.std.proofs.lemmas.List.{length-set}
-use Rattle.std.specs.Ordering.{is_eq}
-use Rattle.sg_cells.specs.Cells.{Cell as Path, IsCode}
+use Rattle.sg_cells.specs.Cells.{Cell as Path}
 use Rattle.sg_cells.specs.Tess.{Entry}
 use Rattle.sg_cells.specs.declared.keys.Key.{Key}
 use Rattle.sg_cells.specs.declared.keys.Key.TheVariants.{Row, Cell}
-use Rattle.sg_locks.specs.Grants.{Grant, has_grant, is_same_mode, is_same_grant, AddsGrant, IsUnblocked}
-use Rattle.sg_locks.specs.Grants as locks
+use Rattle.sg_locks.specs.Grants.{Grant, has_grant, is_same_grant, AddsGrant}
 use Rattle.sg_modes.specs.declared.modes.Mode.{Mode}
 use Rattle.sg_modes.specs.declared.modes.Mode.TheVariants.{S, X}
 use Rattle.sg_plain.specs.declared.statements.Statement.{Statement}
@@ -25,23 +19,20 @@ use Rattle.sg_cellrows.specs.CellTable.{CellRow, version_at}
 use Rattle.sg_trace.specs.Keys.{meets}
 use Rattle.sg_trace.specs.Needs.{Need, Lock, New, Selects, same_mark}
 use Rattle.sg_trace.specs.Replies.{Reply}
-use Rattle.sg_trace.specs.Traces.{Stage, Event, Local, State, state, after, view, session_of}
-use Rattle.sg_trace.specs.Legal.{IsStage, IsLegal, cost}
-use Rattle.sg_scan.specs.declared.needs.Reader.{Reader}
+use Rattle.sg_trace.specs.Traces.{Stage, Event, state, view}
+use Rattle.sg_trace.specs.Legal.{IsStage, IsLegal}
+use Rattle.sg_scan.specs.declared.scans.Scan.{Scan}
 use Rattle.sg_scan.specs.Cursors.{IsPassed}
 use Rattle.sg_stores.specs.Agreement.{mark_at}
 use Rattle.sg_stores.specs.Held.{key_cmp, holds_where, is_held, first_unheld}
 use Rattle.sg_writes.specs.declared.changes.Change.{Change}
 use Rattle.sg_writes.specs.Moved.{mark_seen, is_same}
 use Rattle.sg_writes.specs.Changes.{IsCellMet, IsRowBehind, IsRowHeld, IsBehindFor, IsBehindHeld}
-use Rattle.sg_laws.specs.Reading.{IsReading, IsGuarded, IsLive}
+use Rattle.sg_laws.specs.Reading.{IsGuarded, IsLive}
 use Rattle.sg_reading.proofs.Readings.{guards_stay}
 use Rattle.sg_engine.specs.declared.shared.Work.{Work}
 use Rattle.sg_engine.specs.declared.shared.Work.TheVariants as work
-use Rattle.sg_engine.specs.declared.shared.Pending.{Pending}
-use Rattle.sg_engine.specs.declared.shared.Running.{Running}
-use Rattle.sg_engine.specs.declared.shared.Seat.{Seat}
-use Rattle.sg_engine.specs.Phases.{AreLeft, IsNameOf, IsAwaiting, IsRefined, IsWriting, IsWork, IsSearching, IsPending}
+use Rattle.sg_engine.specs.Phases.{AreLeft, HasRefinedAll, IsWriting, IsWork, IsSearching, IsPending}
 use Rattle.sg_engine.proofs.Conflicts.{grant_some, grant_back}
 use Rattle.sg_engine.proofs.Kept.{if_some}
 
@@ -66,8 +57,8 @@ module _ (s : ℕ) (k : Key) (m : Mode) (grants new : List (Grant Key)) (adds : 
         by_test true h later e = ap (λ b. cond b (first_unheld new u ns) (Some n)) (need_held n h) ∙ later e
         by_test false h later e = absurd (cc)
 
-    pub passed_more : (table : List TableRow) (index : List CellRow) (reader : Reader) → IsPassed grants u table index reader → IsPassed new u table index reader
-    passed_more table index reader h = record { place = h.place; there = h.there; met = all_met _ h.met }
+    pub passed_more : (table : List TableRow) (index : List CellRow) (scan : Scan) → IsPassed grants u table index scan → IsPassed new u table index scan
+    passed_more table index scan h = record { place = h.place; there = h.there; met = all_met _ h.met }
 
     -- and so does what lies behind a change, where keys have come that nobody sees anything at
     module _ (index index' : List CellRow) (seen : (c : Path) (j : ℕ) → visible u (version_at index' (c, j)) ≡ visible u (version_at index (c, j))) (there : (c : Path) (j : ℕ) → IsSome (version_at index (c, j)) → IsSome (version_at index' (c, j))) where
@@ -140,7 +131,14 @@ module _ (w : Stage) (staged : IsStage w) (e : Event) (es : List Event) (legal :
     guarded = λ reads. guarded_on st (h.guarded reads);
   }
 
+  refined_on : (st : Statement) (it : Work) (delivered : Bool) → HasRefinedAll w es u st it delivered → HasRefinedAll w (e ∷ es) u st it delivered
+  refined_on st work.Unread delivered h = tt
+  refined_on st (work.Awaits found job) delivered h = tt
+  refined_on st (work.Refined found done) delivered h = tt
+  refined_on st (work.Writes change) delivered (inl had) = inl had
+  refined_on st (work.Writes change) delivered (inr none) = inr (λ reads. subst (λ (rs : Rows). AreLeft w.settings rs st []) (sym view_is) (none reads))
+
   pub pending_own : (behind : (st : Statement) (change : Change) → IsWriting w es table index grants u st change → IsBehindHeld grants' u table' index' change)
-      → (st : Statement) (reader reader' : Option Reader) (it : Work) → (IfSome reader (IsSearching w es table index grants u st) → IfSome reader' (IsSearching w (e ∷ es) table' index' grants' u st))
-      → IsPending w es table index grants u st reader it → IsPending w (e ∷ es) table' index' grants' u st reader' it
-  pending_own behind st reader reader' it search h = record { sound = h.sound; search = search h.search; work = work_on behind st it h.work }
+      → (st : Statement) (scan scan' : Option Scan) (it : Work) (delivered : Bool) → (IfSome scan (IsSearching w es table index grants u st) → IfSome scan' (IsSearching w (e ∷ es) table' index' grants' u st))
+      → IsPending w es table index grants u st scan it delivered → IsPending w (e ∷ es) table' index' grants' u st scan' it delivered
+  pending_own behind st scan scan' it delivered search h = record { sound = h.sound; search = search h.search; work = work_on behind st it h.work; refined = refined_on st it delivered h.refined }

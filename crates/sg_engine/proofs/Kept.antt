@@ -1,5 +1,5 @@
 -- What the seats keep, where another session goes on.
-use Rattle.std.proofs.Common.{◌≡◌, ◌≢◌, ℕ, zero, suc, ◌+◌, ◌-◌, ◌<◌, Bool, true, false, cond, List, [], ◌∷◌, length, set, eqb, Option, Some, None, refl, sym, ap, ◌∙◌, subst, arith, add-one, get_or, map, IfSome, slice_get}
+use Rattle.std.proofs.Common.{◌≡◌, ◌≢◌, ℕ, zero, suc, ◌+◌, ◌-◌, ◌<◌, Bool, true, false, cond, List, [], ◌∷◌, length, set, eqb, Option, Some, None, inl, inr, refl, sym, ap, ◌∙◌, subst, arith, add-one, get_or, map, IfSome, slice_get}
 use Rattle.std.proofs.lemmas.Bool.{ne_eqb}
 use Rattle.std.proofs.lemmas.List.{get_or-map}
 use Rattle.std.proofs.lemmas.Option.{slice_get_within, slice_get-get_or, get_or_from_slice_get}
@@ -19,7 +19,7 @@ use Rattle.sg_trace.specs.Needs.{Selects}
 use Rattle.sg_trace.specs.Replies.{Reply}
 use Rattle.sg_trace.specs.Traces.{Stage, Event, Begin, Ask, Take, Put, Wait, Victim, Answered, Commit, Rollback, Local, state, after, view, session_of}
 use Rattle.sg_trace.specs.Legal.{IsStage, IsLegal, cost}
-use Rattle.sg_scan.specs.declared.needs.Reader.{Reader}
+use Rattle.sg_scan.specs.declared.scans.Scan.{Scan}
 use Rattle.sg_scan.specs.Cursors.{IsPassed}
 use Rattle.sg_writes.specs.declared.changes.Change.{Change}
 use Rattle.sg_writes.specs.Changes.{IsBehindHeld}
@@ -32,7 +32,7 @@ use Rattle.sg_engine.specs.declared.shared.Running.{Running}
 use Rattle.sg_engine.specs.declared.shared.Seat.{Seat}
 use Rattle.sg_engine.specs.Shown.{Seated, empty_seat, seat_in, seated, running_of}
 use Rattle.sg_engine.specs.Inside.{seat_of, running_in}
-use Rattle.sg_engine.specs.Phases.{last_wish, IsNameOf, IsWriting, IsWork, IsSearching, IsPending, IsRunning, IsSeat, AreSeats}
+use Rattle.sg_engine.specs.Phases.{last_wish, HasRefinedAll, IsNameOf, IsWriting, IsWork, IsSearching, IsPending, IsRunning, IsSeat, AreSeats}
 use Rattle.sg_engine.proofs.Events.{with_other}
 use Rattle.sg_engine.proofs.Unsure.{left_stays}
 
@@ -95,7 +95,7 @@ module _ (w : Stage) (staged : IsStage w) (e : Event) (es : List Event) (legal :
     selects_on (Filter s) ks sound g h = h
 
     module _ (table : List TableRow) (index : List CellRow) (grants : List (Grant Key)) (table' : List TableRow) (index' : List CellRow) (grants' : List (Grant Key))
-        (passed : (st : Statement) (reader : Reader) → IsSearching w es table index grants u st reader → IsPassed grants' u table' index' reader)
+        (passed : (st : Statement) (scan : Scan) → IsSearching w es table index grants u st scan → IsPassed grants' u table' index' scan)
         (behind : (st : Statement) (change : Change) → IsWriting w es table index grants u st change → IsBehindHeld grants' u table' index' change) where
       work_on : (st : Statement) → IsSoundStatement st → (it : Work) → IsWork w es table index grants u st it → IsWork w (e ∷ es) table' index' grants' u st it
       work_on st sound work.Unread h = tt
@@ -120,24 +120,32 @@ module _ (w : Stage) (staged : IsStage w) (e : Event) (es : List Event) (legal :
         guarded = λ reads. guarded_on st (h.guarded reads);
       }
 
-      pending_on : (p : Pending) → IsPending w es table index grants u p.statement p.reader p.work → IsPending w (e ∷ es) table' index' grants' u p.statement p.reader p.work
+      refined_on : (st : Statement) (it : Work) (delivered : Bool) → IsWork w es table index grants u st it → HasRefinedAll w es u st it delivered → HasRefinedAll w (e ∷ es) u st it delivered
+      refined_on st work.Unread delivered k h = tt
+      refined_on st (work.Awaits found job) delivered k h = tt
+      refined_on st (work.Refined found done) delivered k h = tt
+      refined_on st (work.Writes change) delivered k (inl had) = inl had
+      refined_on st (work.Writes change) delivered k (inr none) = inr (λ reads. left_stays w staged e es legal u ne st [] (k.guarded reads) (none reads))
+
+      pending_on : (p : Pending) → IsPending w es table index grants u p.statement p.scan p.work p.delivered → IsPending w (e ∷ es) table' index' grants' u p.statement p.scan p.work p.delivered
       pending_on p h = record {
         sound = h.sound;
-        search = if_some (IsSearching w es table index grants u p.statement) (IsSearching w (e ∷ es) table' index' grants' u p.statement) p.reader
-            (λ reader _ x. record { reader_for = x.reader_for; passed = passed p.statement reader x }) h.search;
+        search = if_some (IsSearching w es table index grants u p.statement) (IsSearching w (e ∷ es) table' index' grants' u p.statement) p.scan
+            (λ scan _ x. record { scan_for = x.scan_for; passed = passed p.statement scan x }) h.search;
         work = work_on p.statement h.sound p.work h.work;
+        refined = refined_on p.statement p.work p.delivered h.work h.refined;
       }
 
       pub running_on : (r : Running) → IsRunning w es table index grants u r → IsRunning w (e ∷ es) table' index' grants' u r
       running_on r h = record {
         cost = h.cost ∙ ap (λ (x : Local). cost x.held) (sym local_same);
-        pending = if_some (λ (p : Pending). IsPending w es table index grants u p.statement p.reader p.work) (λ (p : Pending). IsPending w (e ∷ es) table' index' grants' u p.statement p.reader p.work) r.pending (λ p _ x. pending_on p x) h.pending;
+        pending = if_some (λ (p : Pending). IsPending w es table index grants u p.statement p.scan p.work p.delivered) (λ (p : Pending). IsPending w (e ∷ es) table' index' grants' u p.statement p.scan p.work p.delivered) r.pending (λ p _ x. pending_on p x) h.pending;
         statement_room = h.statement_room;
         answer_room = h.answer_room;
       }
 
   module _ (table : List TableRow) (index : List CellRow) (grants : List (Grant Key)) (table' : List TableRow) (index' : List CellRow) (grants' : List (Grant Key))
-      (passed : (st : Statement) (reader : Reader) → IsSearching w es table index grants u st reader → IsPassed grants' u table' index' reader)
+      (passed : (st : Statement) (scan : Scan) → IsSearching w es table index grants u st scan → IsPassed grants' u table' index' scan)
       (behind : (st : Statement) (change : Change) → IsWriting w es table index grants u st change → IsBehindHeld grants' u table' index' change) where
     -- what is behind each cursor has to stay met; all else of the seat stays by itself
     pub seat_on : (x : Seat) → ((r : Running) → x.running ≡ Some r → IsLive w es u) → IsSeat w es table index grants u x → IsSeat w (e ∷ es) table' index' grants' u x
@@ -171,7 +179,7 @@ module _ (w : Stage) (es : List Event) (seats : List Seat) (long : length seats 
   -- after an event, where what lies behind each cursor of other sessions stays met
   pub seats_on : (staged : IsStage w) (e : Event) → IsLegal w (e ∷ es) → (i : ℕ) → i + 1 ≡ session_of e → (x : Seat)
       → (table : List TableRow) (index : List CellRow) (grants : List (Grant Key)) (table' : List TableRow) (index' : List CellRow) (grants' : List (Grant Key))
-      → ((u : ℕ) → IsSession u → session_of e ≢ u → (st : Statement) (reader : Reader) → IsSearching w es table index grants u st reader → IsPassed grants' u table' index' reader)
+      → ((u : ℕ) → IsSession u → session_of e ≢ u → (st : Statement) (scan : Scan) → IsSearching w es table index grants u st scan → IsPassed grants' u table' index' scan)
       → ((u : ℕ) → IsSession u → session_of e ≢ u → (st : Statement) (change : Change) → IsWriting w es table index grants u st change → IsBehindHeld grants' u table' index' change)
       → AreSeats w es table index grants seats → IsSeat w (e ∷ es) table' index' grants' (session_of e) x → i < length seats → AreSeats w (e ∷ es) table' index' grants' (set seats i x)
   seats_on staged e legal i mine x table index grants table' index' grants' passed behind all own within =

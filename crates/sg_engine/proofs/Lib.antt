@@ -39,6 +39,10 @@ pub mod Delivered
 pub mod Placed
 pub mod Outer
 pub mod Wished
+pub mod Choices
+pub mod Gathered
+pub mod Satisfying
 pub mod Unsure
 pub mod Reached
 pub mod Prepared
+pub mod Refines

@@ -158,7 +158,7 @@ module _ (w : Stage) (es : List Event) (labels : List Label) (entries : List Ent
       ties = ties';
       waits_are = λ u is. ap (λ ws. blockers_of ws u) standing_is ∙ (waits_ended es standing m.waits_are are s u is ∙ sym (clears u));
       kept = seats_on w es seats m.long m.shows.seats m.staged e legal i (mine ∙ sym own) (quit d) table index grants table' index' grants'
-          (λ u is ne st reader h. passed_stays w m.staged u is e es ne table index grants side table' index' grants' side' st reader h.reader_for h.passed)
+          (λ u is ne st scan h. passed_stays w m.staged u is e es ne table index grants side table' index' grants' side' st scan h.scan_for h.passed)
           (λ u is ne st change h. behind_stays w m.staged u is e es ne table index grants side table' index' grants' side' change h.behind) m.kept own_after within;
       long = length-set seats i (quit d) ∙ m.long;
       live_is = (let h = one_less on in omega (arith, h, fewer));

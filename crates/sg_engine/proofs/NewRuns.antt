@@ -1,12 +1,11 @@
 -- An engine after a session has put a key.
 use Rattle.std.specs.Prelude.{IfSome, IsSome, is_some}
 use Rattle.std.specs.Option.{option_map}
-use Rattle.std.specs.Ordering.{is_eq, nat_cmp}
+use Rattle.std.specs.Ordering.{is_eq}
 use Rattle.std.specs.BTreeMap.{insert_entry}
-use Rattle.std.proofs.Common.{◌≡◌, inl, ℕ, ◌+◌, ◌≤◌, ◌<◌, Bool, true, false, cond, List, [], ◌∷◌, ◌++◌, length, get_or, set, Option, Some, None, refl, sym, ap, ◌∙◌, subst}
+use Rattle.std.proofs.Common.{◌≡◌, inl, ℕ, ◌+◌, ◌≤◌, ◌<◌, Bool, true, false, cond, List, [], ◌∷◌, ◌++◌, get_or, set, Option, Some, None, refl, sym, ap, ◌∙◌, subst}
 use Rattle.sg_shape.specs.declared.shapes.Shape.{Shape}
-use Rattle.sg_cells.specs.Cells.{Cell as Path, IsCode}
-use Rattle.sg_cells.specs.Laws.{Has}
+use Rattle.sg_cells.specs.Cells.{Cell as Path}
 use Rattle.sg_cells.specs.declared.marks.Mark.{Mark}
 use Rattle.sg_cells.specs.declared.keys.Key.{Key}
 use Rattle.sg_cells.specs.declared.keys.Key.TheVariants.{Row, RowEnd, Cell, CellEnd}
@@ -18,7 +17,6 @@ use Rattle.sg_modes.specs.Sessions.{IsSession, AreSessions, has_session}
 use Rattle.sg_modes.specs.Waits.{Wait}
 use Rattle.sg_plain.specs.declared.statements.Statement.{Statement}
 use Rattle.sg_plain.specs.Serial.{Entry}
-use Rattle.sg_versions.specs.declared.version.Version.{Version}
 use Rattle.sg_versions.specs.Versions.{Versioned, visible, fresh}
 use Rattle.sg_rows.specs.Table.{TableRow}
 use Rattle.sg_rows.specs.Table as rows
@@ -27,10 +25,10 @@ use Rattle.sg_cellrows.proofs.NextCells.{cell_key_total}
 use Rattle.sg_trace.specs.declared.labels.Label.{Label}
 use Rattle.sg_trace.specs.declared.labels.Label.TheVariants as label
 use Rattle.sg_trace.specs.Keys.{is_write}
-use Rattle.sg_trace.specs.Needs.{New, put_mode, first_unmet, holds_by}
+use Rattle.sg_trace.specs.Needs.{New, put_mode, first_unmet}
 use Rattle.sg_trace.specs.Traces.{Stage, Event, Put, Local, State, state, after, IsPresent}
 use Rattle.sg_trace.specs.Traces as traces
-use Rattle.sg_trace.specs.Legal.{IsLegal, Puts, IsAct, IsOpen, needs_of, conflict, cost}
+use Rattle.sg_trace.specs.Legal.{IsLegal, Puts, IsAct, IsOpen, needs_of, cost}
 use Rattle.sg_stores.specs.Held.{key_cmp}
 use Rattle.sg_stores.specs.Keys.{store_keys}
 use Rattle.sg_stores.proofs.Keys.{row_there, cell_there}
@@ -43,20 +41,20 @@ use Rattle.sg_writes.specs.Changes.{IsBehindHeld}
 use Rattle.sg_engine.specs.declared.shared.Pending.{Pending}
 use Rattle.sg_engine.specs.declared.shared.Running.{Running}
 use Rattle.sg_engine.specs.declared.shared.Seat.{Seat}
-use Rattle.sg_engine.specs.Shown.{Shown, Seated, seated, IsRunOf}
+use Rattle.sg_engine.specs.Shown.{Shown, IsRunOf}
 use Rattle.sg_engine.specs.Inside.{seat_of, running_in, job_of, job_in_running, job_in_pending, shown_in}
 use Rattle.sg_engine.specs.Phases.{IsPending, IsRunning, IsSeat}
 use Rattle.sg_engine.specs.Nexts.{IsNext, IsFree, IsNew, HasNew, cost_with, done_reading, with_new, writing}
 use Rattle.sg_engine.specs.Ties.{IsCoded, Ties, IsEngine}
 use Rattle.sg_engine.proofs.Events.{with_same}
 use Rattle.sg_engine.proofs.Begins.{within_is}
-use Rattle.sg_engine.proofs.Kept.{if_some, own_seat}
+use Rattle.sg_engine.proofs.Kept.{own_seat}
 use Rattle.sg_engine.proofs.Puts.{at, as_before, unseen, put_row_ties, put_cell_ties}
 use Rattle.sg_engine.proofs.Acts.{put_writes, absent_unheld, absent_free}
 use Rattle.sg_engine.proofs.Conflicts.{conflict_is, unblocked}
 use Rattle.sg_engine.proofs.Replied.{coded_key}
 use Rattle.sg_engine.proofs.Standing.{cost_more}
-use Rattle.sg_engine.proofs.Granted.{held_more, held_new, pending_own}
+use Rattle.sg_engine.proofs.Granted.{held_new, pending_own}
 use Rattle.sg_engine.proofs.GrantRuns.{runs_after, engine_after}
 
 -- ---- the seat
@@ -210,9 +208,9 @@ module _ (w : Stage) (labels : List Label) (entries : List Entry) (seats : List 
     running_after : (r : Running) → IsRunning w ok.events table index grants s r → IsRunning w (Put s k m ∷ ok.events) table' index' new s (with_new m r)
     running_after r h = record {
       cost = ap (cost_with m) h.cost ∙ (sym (cost_more k m (z.of s).held) ∙ ap (λ (y : Local). cost y.held) (sym same_local));
-      pending = some_mapped done_reading (λ (p : Pending). IsPending w ok.events table index grants s p.statement p.reader p.work) (λ (p : Pending). IsPending w (Put s k m ∷ ok.events) table' index' new s p.statement p.reader p.work) r.pending
+      pending = some_mapped done_reading (λ (p : Pending). IsPending w ok.events table index grants s p.statement p.scan p.work p.delivered) (λ (p : Pending). IsPending w (Put s k m ∷ ok.events) table' index' new s p.statement p.scan p.work p.delivered) r.pending
           (λ p q. pending_own w ok.staged (Put s k m) ok.events legal_put s is_open.live live' (ap (λ (y : Local). y.begun) same_local) (ap (λ (y : Local). y.done) same_local) (ap (λ (y : Local). traces.effects y.done z.rows) same_local)
-          table index grants table' index' new (λ st' change h'. behind_after change h'.behind) p.statement p.reader None p.work (λ search. tt) q) h.pending;
+          table index grants table' index' new (λ st' change h'. behind_after change h'.behind) p.statement p.scan None p.work p.delivered (λ search. tt) q) h.pending;
       statement_room = some_mapped done_reading (λ (p : Pending). 1 ≤ r.statements.spare) (λ (p : Pending). 1 ≤ r.statements.spare) r.pending (λ p q. q) h.statement_room;
       answer_room = some_mapped done_reading (λ (p : Pending). 1 ≤ r.answers.spare) (λ (p : Pending). 1 ≤ r.answers.spare) r.pending (λ p q. q) h.answer_room;
     }

@@ -1,7 +1,7 @@
--- A seat whose reader has moved, and what its session does next.
+-- A seat whose scan has moved, and what its session does next.
 use Rattle.std.specs.Prelude.{map, IfSome, IfOk, IsSome, is_some, Result, Ok, Err}
 use Rattle.std.specs.Option.{option_map}
-use Rattle.std.proofs.Common.{◌≡◌, ◌≢◌, ℕ, suc, ◌+◌, ◌≤◌, ◌<◌, Bool, true, false, cond, List, [], ◌∷◌, length, get_or, set, Option, Some, None, refl, sym, ap, ◌∙◌, subst, arith, add-one}
+use Rattle.std.proofs.Common.{◌≡◌, ℕ, suc, ◌+◌, ◌≤◌, ◌<◌, Bool, true, false, cond, List, length, get_or, set, Option, Some, None, refl, sym, ap, ◌∙◌, subst, add-one}
 use Rattle.std.proofs.Math.Seq.{map-set_same}
 use Rattle.sg_locks.specs.Grants.{Grant}
 use Rattle.sg_cells.specs.declared.keys.Key.{Key}
@@ -16,9 +16,9 @@ use Rattle.sg_cellrows.specs.CellTable.{CellRow}
 use Rattle.sg_trace.specs.declared.labels.Label.{Label}
 use Rattle.sg_trace.specs.Needs.{Need, Lock, read_needs, first_unmet}
 use Rattle.sg_trace.specs.Traces.{Stage, Event, Local, State, state, view}
-use Rattle.sg_trace.specs.Legal.{Act, Takes, IsAct, IsOpen, waits}
+use Rattle.sg_trace.specs.Legal.{Act, Takes, IsAct}
 use Rattle.sg_stores.specs.Agreement.{seen_rows}
-use Rattle.sg_stores.specs.Held.{first_unheld, lock_need}
+use Rattle.sg_stores.specs.Held.{lock_need}
 use Rattle.sg_stores.specs.Keys.{store_keys}
 use Rattle.sg_laws.specs.Reading.{HasRead}
 use Rattle.sg_turns.proofs.Answers.{selected}
@@ -28,13 +28,12 @@ use Rattle.sg_engine.specs.declared.shared.Seat.{Seat}
 use Rattle.sg_engine.specs.declared.shared.Work.{Work}
 use Rattle.sg_engine.specs.declared.shared.Running.{Running}
 use Rattle.sg_engine.specs.declared.shared.Pending.{Pending}
-use Rattle.sg_engine.specs.Shown.{Shown, Seated, Refining, IsRunOf, seat_in, seated, running_of, is_open_in, open_of}
-use Rattle.sg_engine.specs.Shown as shown
+use Rattle.sg_engine.specs.Shown.{Shown, Seated, Refining, IsRunOf, seated, running_of, open_of}
 use Rattle.sg_engine.specs.Inside.{seat_of, job_of, job_in_running, job_in_pending, job_in_work, is_writing, was_delivered, running_in, shown_in, OnRunning, SeatChanges}
-use Rattle.sg_engine.specs.Phases.{IsPending, IsRunning, IsSeat, IsWork, IsSearching}
-use Rattle.sg_engine.specs.Ties.{IsEngine, Ties}
+use Rattle.sg_engine.specs.Phases.{HasRefinedAll, IsPending, IsRunning, IsSeat, IsWork, IsSearching}
+use Rattle.sg_engine.specs.Ties.{IsEngine}
 use Rattle.sg_engine.specs.Nexts.{IsNext, WaitsForNone, HasReadAll}
-use Rattle.sg_engine.specs.Searches.{pending_in, pending_of, OnPending, OnlyPending, IsReaderAt, IsSearched, IsReadNeed}
+use Rattle.sg_engine.specs.Searches.{pending_in, pending_of, OnPending, OnlyPending, IsScanAt, IsSearched, IsReadNeed}
 use Rattle.sg_engine.proofs.Kept.{each_set, own_seat, if_some}
 use Rattle.sg_engine.proofs.Rooms.{told, told_running}
 use Rattle.sg_engine.proofs.Keys.{store_is}
@@ -98,7 +97,7 @@ module _ (c : Rattle.sg_cells.specs.declared.settings.Settings.Settings) (grants
 -- what is kept of the seat
 module _ (w : Stage) (es : List Event) (table : List TableRow) (index : List CellRow) (grants : List (Grant Key)) (s : ℕ) where
   abbrev KeptPending : Option Pending → Type 0
-  KeptPending o = IfSome o (λ (p : Pending). IsPending w es table index grants s p.statement p.reader p.work)
+  KeptPending o = IfSome o (λ (p : Pending). IsPending w es table index grants s p.statement p.scan p.work p.delivered)
 
   kept_pending : (a b : Option Pending) → OnPending (IsSearched w.settings grants s table index) a b → KeptPending a → KeptPending b
   kept_pending None None h k = tt
@@ -106,8 +105,10 @@ module _ (w : Stage) (es : List Event) (table : List TableRow) (index : List Cel
   kept_pending (Some a) None h k = absurd h
   kept_pending (Some a) (Some b) h k = record {
     sound = subst IsSoundStatement (sym h.statement) k.sound;
-    search = if_some (IsReaderAt w.settings grants s table index b.statement) (IsSearching w es table index grants s b.statement) b.reader (λ r _ x. record { reader_for = x.reader_for; passed = x.passed }) h.reader;
+    search = if_some (IsScanAt w.settings grants s table index b.statement) (IsSearching w es table index grants s b.statement) b.scan (λ r _ x. record { scan_for = x.scan_for; passed = x.passed }) h.scan;
     work = subst (λ (st : Statement). IsWork w es table index grants s st b.work) (sym h.statement) (subst (IsWork w es table index grants s a.statement) (sym h.work) k.work);
+    refined = subst (λ (st : Statement). HasRefinedAll w es s st b.work b.delivered) (sym h.statement)
+        (subst (λ (it : Work). HasRefinedAll w es s a.statement it b.delivered) (sym h.work) (subst (HasRefinedAll w es s a.statement a.work) (sym h.delivered) k.refined));
   }
 
   kept_running : (a b : Option Running) → OnRunning (Moved w.settings grants s table index) a b → IfSome a (IsRunning w es table index grants s) → IfSome b (IsRunning w es table index grants s)
@@ -179,6 +180,10 @@ has_pending d h = has_by d.running h
 pub one : (a b : Statement) → Some a ≡ Some b → a ≡ b
 one a b h = cc
 
+none_of : (need : Option (Key × Mode)) → option_map lock_need need ≡ None → need ≡ None
+none_of None e = refl
+none_of (Some need) e = absurd (cc)
+
 -- ---- what is next
 module _ (w : Stage) (labels : List Label) (entries : List Entry) (seats : List Seat) (table : List TableRow) (index : List CellRow) (grants : List (Grant Key)) (standing : List Wait) (live room entry_room : ℕ)
     (ok : IsEngine (shown_in w labels entries seats) table index grants standing seats live room entry_room)
@@ -233,19 +238,26 @@ module _ (w : Stage) (labels : List Label) (entries : List Entry) (seats : List 
         (subst (λ (y : State). first_unmet (y.of s).held (read_needs w.settings (Rattle.sg_trace.specs.Traces.present_keys w y) (view y s) p.statement) ≡ None) (same_state xs run)
         (sym (read_first w (state w ok.events) good s session table index grants ok.ties p.statement chosen.0 chosen.1 keys_are seen_are) ∙ sym (need (ok.ties.cells_seen s session) ok.ties.codes)))
 
-  readers_by : (o : Option Running) → IfSome o (IsRunning w ok.events table index grants s) → IfSome (pending_in o) (λ (p : Pending). IfSome p.reader (IsReaderAt w.settings grants s table index p.statement))
-  readers_by None h = tt
-  readers_by (Some r) h =
-      if_some (λ (p : Pending). IsPending w ok.events table index grants s p.statement p.reader p.work) (λ (p : Pending). IfSome p.reader (IsReaderAt w.settings grants s table index p.statement)) r.pending
-      (λ p _ k. if_some (IsSearching w ok.events table index grants s p.statement) (IsReaderAt w.settings grants s table index p.statement) p.reader (λ x _ y. record { reader_for = y.reader_for; passed = y.passed }) k.search) h.pending
+    pub none_needed : (need : Option (Key × Mode)) → IsReadNeed w.settings grants s table index p.statement need → HasReadAll v s → need ≡ None
+    none_needed need is read =
+        let o = opened ok.events ok.run in
+        none_of need
+        (is (ok.ties.cells_seen s session) ok.ties.codes
+        ∙ (read_first w (state w ok.events) good s session table index grants ok.ties p.statement chosen.0 chosen.1 keys_are seen_are ∙ read ok.events ok.run p.statement o.open_one))
 
-  pub readers : IfSome (pending_of d) (λ (p : Pending). IfSome p.reader (IsReaderAt w.settings grants s table index p.statement))
-  readers = readers_by d.running own_now.running
+  scans_by : (o : Option Running) → IfSome o (IsRunning w ok.events table index grants s) → IfSome (pending_in o) (λ (p : Pending). IfSome p.scan (IsScanAt w.settings grants s table index p.statement))
+  scans_by None h = tt
+  scans_by (Some r) h =
+      if_some (λ (p : Pending). IsPending w ok.events table index grants s p.statement p.scan p.work p.delivered) (λ (p : Pending). IfSome p.scan (IsScanAt w.settings grants s table index p.statement)) r.pending
+      (λ p _ k. if_some (IsSearching w ok.events table index grants s p.statement) (IsScanAt w.settings grants s table index p.statement) p.scan (λ x _ y. record { scan_for = y.scan_for; passed = y.passed }) k.search) h.pending
+
+  pub scans : IfSome (pending_of d) (λ (p : Pending). IfSome p.scan (IsScanAt w.settings grants s table index p.statement))
+  scans = scans_by d.running own_now.running
 
   sounds_by : (o : Option Running) → IfSome o (IsRunning w ok.events table index grants s) → IfSome (pending_in o) (λ (p : Pending). IsSoundStatement p.statement)
   sounds_by None h = tt
   sounds_by (Some r) h =
-      if_some (λ (p : Pending). IsPending w ok.events table index grants s p.statement p.reader p.work) (λ (p : Pending). IsSoundStatement p.statement) r.pending (λ p _ k. k.sound) h.pending
+      if_some (λ (p : Pending). IsPending w ok.events table index grants s p.statement p.scan p.work p.delivered) (λ (p : Pending). IsSoundStatement p.statement) r.pending (λ p _ k. k.sound) h.pending
 
   pub sounds : IfSome (pending_of d) (λ (p : Pending). IsSoundStatement p.statement)
   sounds = sounds_by d.running own_now.running
@@ -263,6 +275,11 @@ module _ (w : Stage) (labels : List Label) (entries : List Entry) (seats : List 
   all_read None e has sound need = absurd (cc)
   all_read (Some p) e has sound need = read_all p e sound need
 
+  unread_by : (o : Option Pending) → pending_of d ≡ o → IsSome o → IfSome o (λ (p : Pending). IsSoundStatement p.statement) → (need : Option (Key × Mode))
+      → IfSome o (λ (p : Pending). IsReadNeed w.settings grants s table index p.statement need) → HasReadAll v s → need ≡ None
+  unread_by None e has sound need h read = absurd (cc)
+  unread_by (Some p) e has sound need h read = none_needed p e sound need h read
+
   -- what is asked for first
   pub takes : {E : Type 0} (r : Result (Option (Key × Mode)) E) → IfOk r Needed → IsSome (pending_of d) → WaitsForNone v s → IfOk r (λ need. IfSome need (λ q. IsNext v s (Takes q.0 q.1)))
   takes (Err e) h has free = tt
@@ -272,3 +289,7 @@ module _ (w : Stage) (labels : List Label) (entries : List Entry) (seats : List 
   pub reads : {E : Type 0} (r : Result (Option (Key × Mode)) E) → IfOk r Needed → IsSome (pending_of d) → IfOk r (λ need. need ≡ None → HasReadAll v s)
   reads (Err e) h has = tt
   reads (Ok need) h has = λ none. all_read (pending_of d) refl has sounds (subst Needed none h)
+
+  pub unread : {E : Type 0} (r : Result (Option (Key × Mode)) E) → IfOk r Needed → IsSome (pending_of d) → HasReadAll v s → IfOk r (λ need. need ≡ None)
+  unread (Err e) h has read = tt
+  unread (Ok need) h has read = unread_by (pending_of d) refl has sounds need h read

@@ -96,6 +96,7 @@ module _ (s : ℕ) (session : IsSession s) (old new : Shown) where
   gives_out : (job : Job) → GivesOut s job old new → GivesOut s job (outside old) (outside new)
   gives_out job h = record {
     free = λ es run. h.free es (run_in es old run);
+    read = λ es run. h.read es (run_in es old run);
     run = same_run_out old new h.run;
     set = sets_out (record { job = Some job; delivered = false; writes = false }) h.set;
     job_for = λ es run. h.job_for es (run_in es old run);

@@ -31,7 +31,7 @@ use Rattle.sg_engine.specs.declared.shared.Running.{Running}
 use Rattle.sg_engine.specs.declared.shared.Seat.{Seat}
 use Rattle.sg_engine.specs.Shown.{Shown, Refining, IsRunOf}
 use Rattle.sg_engine.specs.Inside.{seat_of, job_of, job_in_running, job_in_pending, job_in_work, is_writing, running_in, shown_in, OnRunning, SeatChanges, was_delivered}
-use Rattle.sg_engine.specs.Phases.{IsPending, IsRunning, IsSeat, IsWork, IsWriting, IsSearching}
+use Rattle.sg_engine.specs.Phases.{HasRefinedAll, IsPending, IsRunning, IsSeat, IsWork, IsWriting, IsSearching}
 use Rattle.sg_engine.specs.Ties.{IsEngine}
 use Rattle.sg_engine.specs.Nexts.{IsNext, WaitsForNone, HasReadAll}
 use Rattle.sg_engine.specs.Acting.{act_of, change_in, change_at, change_by, change_of, OnChange, IsNearer}
@@ -111,7 +111,7 @@ module _ (grants : List (Grant Key)) (s : ℕ) (table : List TableRow) (index : 
 -- what is kept of the seat
 module _ (w : Stage) (es : List Event) (table : List TableRow) (index : List CellRow) (grants : List (Grant Key)) (s : ℕ) where
   abbrev KeptPending : Option Pending → Type 0
-  KeptPending o = IfSome o (λ (p : Pending). IsPending w es table index grants s p.statement p.reader p.work)
+  KeptPending o = IfSome o (λ (p : Pending). IsPending w es table index grants s p.statement p.scan p.work p.delivered)
 
   kept_work : (st : Statement) (a b : Work) → OnChange grants s table index a b → IsWork w es table index grants s st a → IsWork w es table index grants s st b
   kept_work st work.Unread b h k = absurd h
@@ -128,16 +128,26 @@ module _ (w : Stage) (es : List Event) (table : List TableRow) (index : List Cel
     guarded = k.guarded;
   }
 
+  kept_refined : (st : Statement) (a b : Work) (delivered : Bool) → OnChange grants s table index a b → HasRefinedAll w es s st a delivered → HasRefinedAll w es s st b delivered
+  kept_refined st work.Unread b delivered h k = absurd h
+  kept_refined st (work.Awaits found job) b delivered h k = absurd h
+  kept_refined st (work.Refined found done) b delivered h k = absurd h
+  kept_refined st (work.Writes x) work.Unread delivered h k = absurd h
+  kept_refined st (work.Writes x) (work.Awaits found job) delivered h k = absurd h
+  kept_refined st (work.Writes x) (work.Refined found done) delivered h k = absurd h
+  kept_refined st (work.Writes x) (work.Writes y) delivered h k = k
+
   kept_pending : (a b : Option Pending) → OnPending (IsNearer grants s table index) a b → KeptPending a → KeptPending b
   kept_pending None None h k = tt
   kept_pending None (Some b) h k = absurd h
   kept_pending (Some a) None h k = absurd h
   kept_pending (Some a) (Some b) h k =
-      subst (λ (st : Statement). IsPending w es table index grants s st b.reader b.work) (sym h.statement)
+      subst (λ (st : Statement). IsPending w es table index grants s st b.scan b.work b.delivered) (sym h.statement)
       (record {
         sound = k.sound;
-        search = subst (λ r. IfSome r (IsSearching w es table index grants s a.statement)) (sym h.reader) k.search;
+        search = subst (λ r. IfSome r (IsSearching w es table index grants s a.statement)) (sym h.scan) k.search;
         work = kept_work a.statement a.work b.work h.change k.work;
+        refined = kept_refined a.statement a.work b.work b.delivered h.change (subst (HasRefinedAll w es s a.statement a.work) (sym h.delivered) k.refined);
       })
 
   kept_running : (a b : Option Running) → OnRunning (Moved grants s table index) a b → IfSome a (IsRunning w es table index grants s) → IfSome b (IsRunning w es table index grants s)
@@ -205,9 +215,9 @@ module _ (w : Stage) (labels : List Label) (entries : List Entry) (seats : List 
   own : IsSeat w ok.events table index grants s d
   own = own_now w labels entries seats table index grants standing live room entry_room ok s i session within mine d there
 
-  kept_at : (o : Option Running) → IfSome o (IsRunning w ok.events table index grants s) → (p : Pending) → pending_in o ≡ Some p → IsPending w ok.events table index grants s p.statement p.reader p.work
+  kept_at : (o : Option Running) → IfSome o (IsRunning w ok.events table index grants s) → (p : Pending) → pending_in o ≡ Some p → IsPending w ok.events table index grants s p.statement p.scan p.work p.delivered
   kept_at None h p e = absurd (cc)
-  kept_at (Some r) h p e = subst (λ o. IfSome o (λ (q : Pending). IsPending w ok.events table index grants s q.statement q.reader q.work)) e h.pending
+  kept_at (Some r) h p e = subst (λ o. IfSome o (λ (q : Pending). IsPending w ok.events table index grants s q.statement q.scan q.work q.delivered)) e h.pending
 
   writing_at : (change : Change) (a : At (pending_of d) change) → IsWriting w ok.events table index grants s a.pending.statement change
   writing_at change a = subst (IsWork w ok.events table index grants s a.pending.statement) a.work_is (kept_at d.running own.running a.pending a.at).work

@@ -25,7 +25,7 @@ use Rattle.sg_trace.specs.Needs.{Selects, read_needs, write_needs}
 use Rattle.sg_trace.specs.Replies.{Reply}
 use Rattle.sg_trace.specs.Traces.{Stage, Event, DoneList, Local, State, state, view, labels_of}
 use Rattle.sg_trace.specs.Legal.{Replies, answers_of}
-use Rattle.sg_scan.specs.Cursors.{IsReaderFor}
+use Rattle.sg_scan.specs.Cursors.{IsScanFor}
 use Rattle.sg_stores.specs.Agreement.{seen_rows}
 use Rattle.sg_stores.specs.Held.{first_unheld}
 use Rattle.sg_stores.specs.Keys.{store_keys}
@@ -41,13 +41,13 @@ use Rattle.sg_engine.specs.declared.preparing.Reached.{Reached}
 use Rattle.sg_engine.specs.declared.preparing.Reached.TheVariants as reached
 use Rattle.sg_engine.specs.Shown.{Shown, Seated, Refining, IsRunOf, seat_in, job_in, no_job, empty_seat, seated, running_of, length_in}
 use Rattle.sg_engine.specs.Inside.{seat_of, job_of, job_in_running, job_in_pending, job_in_work, is_writing, was_delivered, running_in, shown_in}
-use Rattle.sg_engine.specs.Phases.{IsNameOf, IsWork, IsPending, IsRunning, IsSeat, IsSearching, AreLeft, answer_of}
+use Rattle.sg_engine.specs.Phases.{HasRefinedAll, IsNameOf, IsWork, IsPending, IsRunning, IsSeat, IsSearching, AreLeft, answer_of, unsure_rows}
 use Rattle.sg_engine.specs.Ties.{IsEngine, is_running, running_count}
 use Rattle.sg_engine.specs.Nexts.{IsNext, WaitsForNone, HasReadAll}
 use Rattle.sg_engine.specs.Searches.{pending_in, pending_of}
 use Rattle.sg_engine.specs.Steps.{IsSameRun, SetsJob, OpenReads}
 use Rattle.sg_engine.specs.Preparing.{IsJobAt, IsJobFor, HasNoneLeft, Prepares, IsNoJob}
-use Rattle.sg_engine.specs.Reaching.{IsReplying, is_refined, IsReached, name_at, settled, settled_in, settled_at, prepared_of}
+use Rattle.sg_engine.specs.Reaching.{IsReplying, IsAllRefined, is_refined, IsReached, name_at, settled, settled_in, settled_at, prepared_of}
 use Rattle.sg_engine.proofs.Kept.{each_set, if_some}
 use Rattle.sg_engine.proofs.Rooms.{told, told_running}
 use Rattle.sg_engine.proofs.Events.{done_labels}
@@ -121,11 +121,11 @@ statement_same (reached.Again job) p = refl
 statement_same (reached.Refine found job copy) p = refl
 statement_same (reached.Writes change) p = refl
 
-reader_same : (r : Reached) (p : Pending) → (settled r p).reader ≡ p.reader
-reader_same (reached.Answer a) p = refl
-reader_same (reached.Again job) p = refl
-reader_same (reached.Refine found job copy) p = refl
-reader_same (reached.Writes change) p = refl
+scan_same : (r : Reached) (p : Pending) → (settled r p).scan ≡ p.scan
+scan_same (reached.Answer a) p = refl
+scan_same (reached.Again job) p = refl
+scan_same (reached.Refine found job copy) p = refl
+scan_same (reached.Writes change) p = refl
 
 abbrev statement_in : Option Pending → Option Statement
 statement_in o = option_map (λ (p : Pending). p.statement) o
@@ -214,6 +214,17 @@ no_writes c ks rows grants s js (Update k f) h = absurd (h tt)
 no_writes c ks rows grants s js (Delete k) h = absurd (h tt)
 no_writes c ks rows grants s js (DeleteWhere q) h = absurd (h tt)
 
+-- a search of which nothing is left leaves no candidate
+left_empty : (c : Settings) (rows : Rows) (st : Statement) → ((items : Rows) → AreLeft c rows st items → items ≡ []) → Writes st → IsReading st → AreLeft c rows st []
+left_empty c rows (DeleteWhere q) none writes reads = sym (none (unsure_rows c q rows) refl)
+left_empty c rows (Insert k f) none writes reads = absurd reads
+left_empty c rows (Update k f) none writes reads = absurd reads
+left_empty c rows (Delete k) none writes reads = absurd reads
+left_empty c rows (Get k) none writes reads = absurd writes
+left_empty c rows (Select q) none writes reads = absurd writes
+left_empty c rows (Plan q) none writes reads = absurd writes
+left_empty c rows (Filter f) none writes reads = absurd writes
+
 -- ---- what the seat has kept
 module _ (w : Stage) (labels : List Label) (entries : List Entry) (seats : List Seat) (table : List TableRow) (index : List CellRow) (grants : List (Grant Key)) (standing : List Wait) (live room entry_room : ℕ)
     (ok : IsEngine (shown_in w labels entries seats) table index grants standing seats live room entry_room)
@@ -222,7 +233,7 @@ module _ (w : Stage) (labels : List Label) (entries : List Entry) (seats : List 
   v = shown_in w labels entries seats
 
   abbrev KeptPending : Pending → Type 0
-  KeptPending p = IsPending w ok.events table index grants s p.statement p.reader p.work
+  KeptPending p = IsPending w ok.events table index grants s p.statement p.scan p.work p.delivered
 
   own : IsSeat w ok.events table index grants s d
   own = own_now w labels entries seats table index grants standing live room entry_room ok s i session within mine d there
@@ -246,9 +257,9 @@ module _ (w : Stage) (labels : List Label) (entries : List Entry) (seats : List 
       by_work st (work.Refined found done) h = (h.asks, subst (λ (rows : Rows). IfSome (answer_of st found done.keys) (Reply w.settings rows st)) (sym seen) h.reply)
       by_work st (work.Writes change) h = tt
 
-  pub reader_for : IfSome (pending_of d) (λ (p : Pending). IfSome p.reader (IsReaderFor w.settings p.statement))
-  reader_for = if_some KeptPending (λ (p : Pending). IfSome p.reader (IsReaderFor w.settings p.statement)) (pending_of d)
-      (λ p _ h. if_some (IsSearching w ok.events table index grants s p.statement) (IsReaderFor w.settings p.statement) p.reader (λ x _ y. y.reader_for) h.search) kept
+  pub scan_for : IfSome (pending_of d) (λ (p : Pending). IfSome p.scan (IsScanFor w.settings p.statement))
+  scan_for = if_some KeptPending (λ (p : Pending). IfSome p.scan (IsScanFor w.settings p.statement)) (pending_of d)
+      (λ p _ h. if_some (IsSearching w ok.events table index grants s p.statement) (IsScanFor w.settings p.statement) p.scan (λ x _ y. y.scan_for) h.search) kept
 
   some_by : (P : Pending → Type 0) (o : Option Pending) → ((p : Pending) → o ≡ Some p → P p) → IfSome o P
   some_by P None f = tt
@@ -334,11 +345,22 @@ module _ (w : Stage) (labels : List Label) (entries : List Entry) (seats : List 
           guarded = guarded;
         }
 
-    pending_after : IsPending w ok.events table index grants s (settled r p).statement (settled r p).reader (settled r p).work
+    refined_by : (r : Reached) → IsReached w.settings (seen_rows s table) p.statement p.work (name_at s d) r → HasRefinedAll w ok.events s p.statement (settled r p).work (settled r p).delivered
+    refined_by (reached.Answer a) h = pending_is.refined
+    refined_by (reached.Again job) h = pending_is.refined
+    refined_by (reached.Refine found job copy) h = tt
+    refined_by (reached.Writes change) h = by_left h.1
+      where
+        by_left : IsAllRefined w.settings (seen_rows s table) p.statement p.work → HasRefinedAll w ok.events s p.statement (work.Writes change) (was_delivered p.work p.delivered)
+        by_left (inl e) = inl (delivered_by p.work p.delivered e)
+        by_left (inr none) = inr (λ reads. subst (λ (rows : Rows). AreLeft w.settings rows p.statement []) seen (left_empty w.settings (seen_rows s table) p.statement none h.0.writes reads))
+
+    pending_after : IsPending w ok.events table index grants s (settled r p).statement (settled r p).scan (settled r p).work (settled r p).delivered
     pending_after = record {
       sound = subst IsSoundStatement (sym (statement_same r p)) pending_is.sound;
-      search = subst (λ (st : Statement). IfSome (settled r p).reader (IsSearching w ok.events table index grants s st)) (sym (statement_same r p)) (subst (λ o. IfSome o (IsSearching w ok.events table index grants s p.statement)) (sym (reader_same r p)) pending_is.search);
+      search = subst (λ (st : Statement). IfSome (settled r p).scan (IsSearching w ok.events table index grants s st)) (sym (statement_same r p)) (subst (λ o. IfSome o (IsSearching w ok.events table index grants s p.statement)) (sym (scan_same r p)) pending_is.search);
       work = subst (λ (st : Statement). IsWork w ok.events table index grants s st (settled r p).work) (sym (statement_same r p)) (work_by r is);
+      refined = subst (λ (st : Statement). HasRefinedAll w ok.events s st (settled r p).work (settled r p).delivered) (sym (statement_same r p)) (refined_by r is);
     }
 
     some_mapped : (Q : Type 0) (o : Option Pending) → IfSome o (λ (q : Pending). Q) → IfSome (option_map (settled r) o) (λ (q : Pending). Q)

@@ -22,17 +22,19 @@ use Rattle.sg_trace.specs.Candidates.{touches, proves_in, is_proved, candidates}
 use Rattle.sg_trace.specs.Laws.{AreSettings}
 use Rattle.sg_trace.specs.Pending.{has_key, is_pending, ArePending, chosen}
 use Rattle.sg_trace.specs.Replies.{Reply, IsFilterBy, meeting}
-use Rattle.sg_scan.specs.declared.scans.Found.{Found}
+use Rattle.sg_scan.specs.declared.searches.Found.{Found}
 use Rattle.sg_scan.specs.declared.scans.Scan.{Scan}
-use Rattle.sg_scan.specs.declared.scans.Scan.TheVariants as scan
-use Rattle.sg_scan.specs.Scans.{HasQuery, IsScanIn, IsScanFor, IsSearch, IsFound, Finds}
+use Rattle.sg_scan.specs.declared.searches.Search.{Search}
+use Rattle.sg_scan.specs.declared.searches.Search.TheVariants as search
+use Rattle.sg_scan.specs.Scans.{HasQuery, IsSearchIn, IsByQuery, IsFound, Finds}
+use Rattle.sg_scan.specs.Cursors.{IsScanFor}
 use Rattle.sg_stores.specs.Agreement.{SeenAgree, seen_rows}
 use Rattle.sg_stores.proofs.Picked.{same_from}
 use Rattle.sg_laws.specs.Reading.{IsReading}
 use Rattle.sg_laws.proofs.Lists.{rows_rise}
 use Rattle.sg_laws.proofs.Same.{pick, lookup-kept}
-use Rattle.sg_table.proofs.Waiting.{Has-from_test}
-use Rattle.sg_table.proofs.Satisfying.{passing_holds, passing_has, satisfied, asked}
+use Rattle.sg_engine.proofs.Gathered.{Has-from_test}
+use Rattle.sg_engine.proofs.Satisfying.{passing_holds, passing_has, satisfied, asked}
 use Rattle.sg_engine.specs.Phases.{answer_of, IsAskedBy, IsJobOf, is_unsure, unsure_rows, AreLeft}
 use Rattle.sg_engine.specs.declared.shared.Work.TheVariants as work
 use Rattle.sg_engine.specs.declared.preparing.Reached.{Reached}
@@ -60,29 +62,29 @@ query_reads (Insert k s) h = absurd h
 query_reads (Update k s) h = absurd h
 query_reads (Delete k) h = absurd h
 
-search_in : (grid : Option Grid) (window : ℕ) (q : Query) (it : Scan) → IsScanIn grid window q it → IsSearch it
-search_in None window q (scan.Row k) h = absurd h
-search_in (Some g) window q (scan.Row k) h = absurd h
-search_in grid window q scan.Nothing h = tt
-search_in grid window q scan.Every h = tt
-search_in grid window q (scan.Cells s) h = tt
+by_query_in : (grid : Option Grid) (window : ℕ) (q : Query) (it : Search) → IsSearchIn grid window q it → IsByQuery it
+by_query_in None window q (search.Row k) h = absurd h
+by_query_in (Some g) window q (search.Row k) h = absurd h
+by_query_in grid window q search.Nothing h = tt
+by_query_in grid window q search.Every h = tt
+by_query_in grid window q (search.Cells s) h = tt
 
-pub is_search : (c : Settings) (st : Statement) (it : Scan) → HasQuery st → IsScanFor c st it → IsSearch it
-is_search c (Select q) it has h = search_in c.grid c.window q it h
-is_search c (Plan q) it has h = search_in c.grid c.window q it h
-is_search c (Filter s) it has h = search_in c.grid c.window (meeting s) it h
-is_search c (DeleteWhere q) it has h = search_in c.grid c.window q it h
-is_search c (Get k) it has h = absurd has
-is_search c (Insert k s) it has h = absurd has
-is_search c (Update k s) it has h = absurd has
-is_search c (Delete k) it has h = absurd has
+pub is_by_query : (c : Settings) (st : Statement) (it : Scan) → HasQuery st → IsScanFor c st it → IsByQuery it.search
+is_by_query c (Select q) it has h = by_query_in c.grid c.window q it.search h.search
+is_by_query c (Plan q) it has h = by_query_in c.grid c.window q it.search h.search
+is_by_query c (Filter s) it has h = by_query_in c.grid c.window (meeting s) it.search h.search
+is_by_query c (DeleteWhere q) it has h = by_query_in c.grid c.window q it.search h.search
+is_by_query c (Get k) it has h = absurd has
+is_by_query c (Insert k s) it has h = absurd has
+is_by_query c (Update k s) it has h = absurd has
+is_by_query c (Delete k) it has h = absurd has
 
-pub found_by : (c : Settings) (st : Statement) (it : Scan) (s : ℕ) (table : List TableRow) (index : List CellRow) (found : Found) → HasQuery st → IsScanFor c st it → AreSettings c → Finds it s table index found → SeenAgree c s table index
+pub found_by : (c : Settings) (st : Statement) (it : Scan) (s : ℕ) (table : List TableRow) (index : List CellRow) (found : Found) → HasQuery st → IsScanFor c st it → AreSettings c → Finds it.search s table index found → SeenAgree c s table index
     → IsFoundBy c (seen_rows s table) st found
-found_by c (Select q) it s table index found has is settings h agree = h c q is settings agree
-found_by c (Plan q) it s table index found has is settings h agree = h c q is settings agree
-found_by c (Filter f) it s table index found has is settings h agree = h c (meeting f) is settings agree
-found_by c (DeleteWhere q) it s table index found has is settings h agree = h c q is settings agree
+found_by c (Select q) it s table index found has is settings h agree = h c q is.search settings agree
+found_by c (Plan q) it s table index found has is settings h agree = h c q is.search settings agree
+found_by c (Filter f) it s table index found has is settings h agree = h c (meeting f) is.search settings agree
+found_by c (DeleteWhere q) it s table index found has is settings h agree = h c q is.search settings agree
 found_by c (Get k) it s table index found has is settings h agree = absurd has
 found_by c (Insert k f) it s table index found has is settings h agree = absurd has
 found_by c (Update k f) it s table index found has is settings h agree = absurd has

@@ -132,7 +132,7 @@ module _ (seats : List Seat) (i : ℕ) (d x : Seat) (there : d ≡ get_or seats 
         let empty : b.pending ≡ None = h.pending ∙ none_pending a.pending n in
         record {
           cost = h.cost ∙ k.cost;
-          pending = subst (λ o. IfSome o (λ (p : Pending). IsPending w ok.events table index grants s p.statement p.reader p.work)) (sym empty) tt;
+          pending = subst (λ o. IfSome o (λ (p : Pending). IsPending w ok.events table index grants s p.statement p.scan p.work p.delivered)) (sym empty) tt;
           statement_room = subst (λ o. IfSome o (λ (p : Pending). 1 ≤ b.statements.spare)) (sym empty) tt;
           answer_room = subst (λ o. IfSome o (λ (p : Pending). 1 ≤ b.answers.spare)) (sym empty) tt;
         }

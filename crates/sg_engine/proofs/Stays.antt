@@ -26,12 +26,12 @@ use Rattle.sg_trace.specs.Traces.{Stage, Event, Begin, Ask, Take, Put, Wait, Vic
 use Rattle.sg_trace.specs.Legal.{IsStage, IsLegal}
 use Rattle.sg_stores.specs.Held.{key_cmp, holds_where, first_unheld}
 use Rattle.sg_stores.specs.Agreement.{mark_of, mark_at}
-use Rattle.sg_scan.specs.declared.scans.Scan.{Scan}
-use Rattle.sg_scan.specs.declared.scans.Scan.TheVariants as scan
+use Rattle.sg_scan.specs.declared.searches.Search.{Search}
+use Rattle.sg_scan.specs.declared.searches.Search.TheVariants as search
 use Rattle.sg_scan.specs.declared.needs.Place.{Place}
-use Rattle.sg_scan.specs.declared.needs.Reader.{Reader}
+use Rattle.sg_scan.specs.declared.scans.Scan.{Scan}
 use Rattle.sg_stores.specs.Keys.{table_keys}
-use Rattle.sg_scan.specs.Cursors.{behind, part_behind, table_need, rows_until, range_whole, needs_upto, locking_of, locking_for, IsPlace, IsStored, IsThere, IsRowThere, IsInside, IsPassed, IsReaderFor}
+use Rattle.sg_scan.specs.Cursors.{behind, part_behind, table_need, rows_until, range_whole, needs_upto, locking_of, locking_for, IsPlace, IsStored, IsThere, IsRowThere, IsInside, IsPassed, IsScanFor}
 use Rattle.sg_scan.proofs.Bridges.{within_same}
 use Rattle.sg_stores.proofs.Helds.{unheld_none, by_s}
 use Rattle.sg_scan.proofs.Parts.{none_upto, rows_are_upto}
@@ -115,12 +115,12 @@ module _ (w : Stage) (r : IsStage w) (s : ℕ) (is : IsSession s) (e : Event) (e
     by_part None above inside there met = (tt, refl)
     by_part (Some p) above inside there met = by_cell p above inside there met
 
-    by_scan : (it : Scan) (at : Place) → IsPlace it at → IsStored it at table index → first_unheld grants s (behind it m at s table index) ≡ None
+    by_search : (it : Search) (at : Place) → IsPlace it at → IsStored it at table index → first_unheld grants s (behind it m at s table index) ≡ None
         → IsStored it at table' index' × (first_unheld grants' s (behind it m at s table' index') ≡ None)
-    by_scan (scan.Row k) at place there met = (tt, refl)
-    by_scan scan.Nothing at place there met = (tt, refl)
-    by_scan scan.Every at place there met = by_row at.row there met
-    by_scan (scan.Cells c) at place there met =
+    by_search (search.Row k) at place there met = (tt, refl)
+    by_search search.Nothing at place there met = (tt, refl)
+    by_search search.Every at place there met = by_row at.row there met
+    by_search (search.Cells c) at place there met =
         let parts = none_parts grants s (flat_map (range_whole m s index) (take at.range c.ranges)) (part_behind m s at.cell index (slice_get c.ranges at.range)) met in
         let part = by_part (slice_get c.ranges at.range) at.cell place.1 there parts.1 in (
           part.0,
@@ -129,10 +129,10 @@ module _ (w : Stage) (r : IsStage w) (s : ℕ) (is : IsSession s) (e : Event) (e
         )
 
   -- what a search has passed stays passed
-  pub passed_stays : (st : Statement) (reader : Reader) → IsReaderFor w.settings st reader → IsPassed grants s table index reader → IsPassed grants' s table' index' reader
-  passed_stays st reader for h =
-      let ranged : is_range (locking_of reader.modes).range ≡ true = ap (λ (m : Locking). is_range m.range) for.modes ∙ range_of st in
-      let stay = by_scan (locking_of reader.modes) ranged reader.scan reader.place h.place h.there h.met in
+  pub passed_stays : (st : Statement) (scan : Scan) → IsScanFor w.settings st scan → IsPassed grants s table index scan → IsPassed grants' s table' index' scan
+  passed_stays st scan for h =
+      let ranged : is_range (locking_of scan.modes).range ≡ true = ap (λ (m : Locking). is_range m.range) for.modes ∙ range_of st in
+      let stay = by_search (locking_of scan.modes) ranged scan.search scan.place h.place h.there h.met in
       record { place = h.place; there = stay.0; met = stay.1 }
 
 -- ---- changes

@@ -53,6 +53,6 @@ module _ (grants : List (Grant Key)) (s : ℕ) (table : List TableRow) (index : 
   -- only the change has
   pub record IsNearer (old new : Pending) : Type 0 where
     pub statement : new.statement ≡ old.statement
-    pub reader : new.reader ≡ old.reader
+    pub scan : new.scan ≡ old.scan
     pub delivered : new.delivered ≡ old.delivered
     pub change : OnChange old.work new.work

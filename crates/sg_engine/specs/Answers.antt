@@ -50,7 +50,7 @@ change_of x = change_in (pending_of x)
 
 -- the same without its change
 abbrev pub unwritten_one : Pending → Pending
-unwritten_one p = record { statement = p.statement; reader = p.reader; work = work.Unread; delivered = p.delivered }
+unwritten_one p = record { statement = p.statement; scan = p.scan; work = work.Unread; delivered = p.delivered }
 
 abbrev pub unwritten_in : Running → Running
 unwritten_in r = record { statements = r.statements; answers = r.answers; pending = option_map unwritten_one r.pending; cost = r.cost }

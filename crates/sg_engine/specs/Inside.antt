@@ -1,5 +1,5 @@
 -- What is shown of the fields of an engine.
-use Rattle.std.specs.Prelude.{◌≡◌, ◌+◌, ◌≤◌, [], ◌∷◌, ℤ, Bool, true, false, List, Option, Some, None, map}
+use Rattle.std.specs.Prelude.{◌≡◌, ◌+◌, ◌≤◌, [], ℤ, Bool, true, false, List, Option, Some, None, map}
 use Rattle.std.specs.Option.{option_map}
 use Rattle.sg_cells.specs.declared.settings.Settings.{Settings}
 use Rattle.sg_plain.specs.declared.statements.Statement.{Statement}
@@ -44,7 +44,7 @@ pub record IsSame (old new : Running) : Type 0 where
 pub record IsOpened (st : Statement) (old new : Running) : Type 0 where
   pub statements : new.statements.items ≡ old.statements.items
   pub answers : new.answers.items ≡ old.answers.items
-  pub pending : new.pending ≡ Some (record { statement = st; reader = None; work = work.Unread; delivered = false })
+  pub pending : new.pending ≡ Some (record { statement = st; scan = None; work = work.Unread; delivered = false })
   pub cost : new.cost ≡ old.cost
   pub statement_room : 1 ≤ new.statements.spare
   pub answer_room : 1 ≤ new.answers.spare

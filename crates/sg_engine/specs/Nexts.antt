@@ -1,5 +1,5 @@
 -- What a session does next, whatever run led to what is shown.
-use Rattle.std.specs.Prelude.{◌≡◌, ℕ, ◌+◌, ◌≤◌, cond, List, [], Option, Some, None}
+use Rattle.std.specs.Prelude.{◌≡◌, ℕ, ◌+◌, ◌≤◌, cond, List, [], Some, None}
 use Rattle.std.specs.Ordering.{nat_cmp}
 use Rattle.std.specs.BTreeMap.{insert_entry}
 use Rattle.std.specs.Option.{option_map}
@@ -50,7 +50,7 @@ counted m x = record { begun = x.begun; wish = x.wish; running = option_map (wit
 
 -- the same of a new key, after which it reads no more
 abbrev pub done_reading : Pending → Pending
-done_reading p = record { statement = p.statement; reader = None; work = p.work; delivered = p.delivered }
+done_reading p = record { statement = p.statement; scan = None; work = p.work; delivered = p.delivered }
 
 abbrev pub with_new : Mode → Running → Running
 with_new m r = record { statements = r.statements; answers = r.answers; pending = option_map done_reading r.pending; cost = cost_with m r.cost }

@@ -1,5 +1,5 @@
 -- What an engine keeps of a session whose statement is open, as far as the statement has come.
-use Rattle.std.specs.Prelude.{◌≡◌, ◌≢◌, ℕ, suc, ◌≤◌, ◌-◌, Bool, ◌&&◌, not, cond, List, [], ◌∷◌, length, filter, eqb, slice_get, Option, Some, None, IfSome}
+use Rattle.std.specs.Prelude.{◌≡◌, ◌≢◌, ◌⊎◌, ℕ, suc, ◌≤◌, ◌-◌, Bool, true, ◌&&◌, not, cond, List, [], ◌∷◌, length, filter, eqb, slice_get, Option, Some, None, IfSome}
 use Rattle.sg_shape.specs.declared.shapes.Shape.{Shape}
 use Rattle.sg_cells.specs.declared.keys.Key.{Key}
 use Rattle.sg_cells.specs.declared.settings.Settings.{Settings}
@@ -20,9 +20,9 @@ use Rattle.sg_trace.specs.Pending.{chosen}
 use Rattle.sg_trace.specs.Replies.{Reply, meeting}
 use Rattle.sg_trace.specs.Traces.{Stage, Event, Begin, Ask, Take, Put, Wait, Victim, Answered, Commit, Rollback, state, view}
 use Rattle.sg_trace.specs.Legal.{cost}
-use Rattle.sg_scan.specs.declared.needs.Reader.{Reader}
-use Rattle.sg_scan.specs.declared.scans.Found.{Found}
-use Rattle.sg_scan.specs.Cursors.{IsReaderFor, IsPassed}
+use Rattle.sg_scan.specs.declared.scans.Scan.{Scan}
+use Rattle.sg_scan.specs.declared.searches.Found.{Found}
+use Rattle.sg_scan.specs.Cursors.{IsScanFor, IsPassed}
 use Rattle.sg_scan.specs.Scans.{HasQuery}
 use Rattle.sg_writes.specs.declared.changes.Change.{Change}
 use Rattle.sg_writes.specs.Changes.{Writes, IsChangeFor, IsBehindHeld}
@@ -91,6 +91,14 @@ AreLeft c rows (Insert k s) items = ⊥
 AreLeft c rows (Update k s) items = ⊥
 AreLeft c rows (Delete k) items = ⊥
 
+-- of a search that writes, once it has come to its writes: the result of its job was delivered, or nothing is left to be
+-- refined
+abbrev pub HasRefinedAll : Stage → List Event → ℕ → Statement → Work → Bool → Type 0
+HasRefinedAll w es s st work.Unread delivered = Unit {0}
+HasRefinedAll w es s st (work.Awaits found job) delivered = Unit {0}
+HasRefinedAll w es s st (work.Refined found done) delivered = Unit {0}
+HasRefinedAll w es s st (work.Writes change) delivered = (delivered ≡ true) ⊎ (IsReading st → AreLeft w.settings (view (state w es) s) st [])
+
 -- what the session has of the number of its transaction and of its open statement
 pub record IsNameOf (w : Stage) (es : List Event) (s : ℕ) (job : Job) : Type 0 where
   pub session : job.name.session ≡ s
@@ -128,19 +136,20 @@ module _ (w : Stage) (es : List Event) (table : List TableRow) (index : List Cel
   IsWork st (work.Writes change) = IsWriting st change
 
   -- a search of the statement; the needs behind its place are met
-  pub record IsSearching (st : Statement) (reader : Reader) : Type 0 where
-    pub reader_for : IsReaderFor w.settings st reader
-    pub passed : IsPassed grants s table index reader
+  pub record IsSearching (st : Statement) (scan : Scan) : Type 0 where
+    pub scan_for : IsScanFor w.settings st scan
+    pub passed : IsPassed grants s table index scan
 
   -- an open statement, with room to keep it and its answer
-  pub record IsPending (st : Statement) (reader : Option Reader) (it : Work) : Type 0 where
+  pub record IsPending (st : Statement) (scan : Option Scan) (it : Work) (delivered : Bool) : Type 0 where
     pub sound : IsSoundStatement st
-    pub search : IfSome reader (IsSearching st)
+    pub search : IfSome scan (IsSearching st)
     pub work : IsWork st it
+    pub refined : HasRefinedAll w es s st it delivered
 
   pub record IsRunning (r : Running) : Type 0 where
     pub cost : r.cost ≡ cost ((state w es).of s).held
-    pub pending : IfSome r.pending (λ (p : Pending). IsPending p.statement p.reader p.work)
+    pub pending : IfSome r.pending (λ (p : Pending). IsPending p.statement p.scan p.work p.delivered)
     pub statement_room : IfSome r.pending (λ (p : Pending). 1 ≤ r.statements.spare)
     pub answer_room : IfSome r.pending (λ (p : Pending). 1 ≤ r.answers.spare)
 

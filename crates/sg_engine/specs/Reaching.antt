@@ -10,7 +10,7 @@ use Rattle.sg_refine.specs.declared.jobs.JobName.{JobName}
 use Rattle.sg_refine.specs.Jobs.{Job, AreKeysOf}
 use Rattle.sg_trace.specs.Needs.{Selects}
 use Rattle.sg_trace.specs.Replies.{Reply, meeting}
-use Rattle.sg_scan.specs.declared.scans.Found.{Found}
+use Rattle.sg_scan.specs.declared.searches.Found.{Found}
 use Rattle.sg_scan.specs.Scans.{HasQuery, IsFound}
 use Rattle.sg_writes.specs.declared.changes.Change.{Change}
 use Rattle.sg_writes.specs.Changes.{Writes, IsChangeFor, IsFresh}
@@ -111,8 +111,8 @@ name_at s x = record { session = s; transaction = x.begun; statement = length_in
 abbrev pub settled : Reached → Pending → Pending
 settled (reached.Answer a) p = p
 settled (reached.Again job) p = p
-settled (reached.Refine found job copy) p = record { statement = p.statement; reader = p.reader; work = work.Awaits found job; delivered = p.delivered }
-settled (reached.Writes change) p = record { statement = p.statement; reader = p.reader; work = work.Writes change; delivered = was_delivered p.work p.delivered }
+settled (reached.Refine found job copy) p = record { statement = p.statement; scan = p.scan; work = work.Awaits found job; delivered = p.delivered }
+settled (reached.Writes change) p = record { statement = p.statement; scan = p.scan; work = work.Writes change; delivered = was_delivered p.work p.delivered }
 
 abbrev pub settled_in : Reached → Running → Running
 settled_in r x = record { statements = x.statements; answers = x.answers; pending = option_map (settled r) x.pending; cost = x.cost }

@@ -12,8 +12,8 @@ use Rattle.sg_trace.specs.Needs.{read_needs}
 use Rattle.sg_stores.specs.Agreement.{SeenAgree, seen_rows}
 use Rattle.sg_stores.specs.Held.{first_unheld, lock_need}
 use Rattle.sg_stores.specs.Keys.{store_keys, AreCodes}
-use Rattle.sg_scan.specs.declared.needs.Reader.{Reader}
-use Rattle.sg_scan.specs.Cursors.{IsReaderFor, IsPassed}
+use Rattle.sg_scan.specs.declared.scans.Scan.{Scan}
+use Rattle.sg_scan.specs.Cursors.{IsScanFor, IsPassed}
 use Rattle.sg_engine.specs.declared.shared.Pending.{Pending}
 use Rattle.sg_engine.specs.declared.shared.Running.{Running}
 use Rattle.sg_engine.specs.declared.shared.Seat.{Seat}
@@ -41,17 +41,17 @@ pub record OnlyPending (R : Pending → Pending → Type 0) (old new : Running) 
   pub pending : OnPending R old.pending new.pending
 
 module _ (c : Settings) (grants : List (Grant Key)) (s : ℕ) (table : List TableRow) (index : List CellRow) where
-  -- a reader of the statement, which has passed only what is held
-  pub record IsReaderAt (st : Statement) (r : Reader) : Type 0 where
-    pub reader_for : IsReaderFor c st r
+  -- a scan of the statement, which has passed only what is held
+  pub record IsScanAt (st : Statement) (r : Scan) : Type 0 where
+    pub scan_for : IsScanFor c st r
     pub passed : IsPassed grants s table index r
 
-  -- only the reader has moved
+  -- only the scan has moved
   pub record IsSearched (old new : Pending) : Type 0 where
     pub statement : new.statement ≡ old.statement
     pub work : new.work ≡ old.work
     pub delivered : new.delivered ≡ old.delivered
-    pub reader : IfSome new.reader (IsReaderAt new.statement)
+    pub scan : IfSome new.scan (IsScanAt new.statement)
 
   -- the first of the statement's needs of reading that isn't met
   abbrev pub IsReadNeed : Statement → Option (Key × Mode) → Type 0

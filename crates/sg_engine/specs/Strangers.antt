@@ -38,7 +38,7 @@ refined done (work.Awaits found job) = work.Refined found done
 refined done it = it
 
 abbrev pub with_result : Refined → Pending → Pending
-with_result done p = record { statement = p.statement; reader = p.reader; work = refined done p.work; delivered = true }
+with_result done p = record { statement = p.statement; scan = p.scan; work = refined done p.work; delivered = true }
 
 abbrev pub running_with : Refined → Running → Running
 running_with done r = record { statements = r.statements; answers = r.answers; pending = option_map (with_result done) r.pending; cost = r.cost }

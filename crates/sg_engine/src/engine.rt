@@ -1,5 +1,4 @@
 ghost use Rattle.std.specs.Prelude.{◌≡◌, ◌↔◌, ◌≤◌, ℕ, [], ◌∷◌, ◌++◌, suc, length, true, false, None, Some, Err, OnOk, OnErr, IfOk, IfErr, IsOk};
-ghost use Rattle.sg_modes.specs.Priorities.{ArePriorities};
 ghost use Rattle.sg_plain.specs.Sat.{IsSoundStatement};
 ghost use Rattle.sg_rows.specs.Table.{committed_rows};
 ghost use Rattle.sg_trace.specs.Legal.{IsStage};
@@ -7,7 +6,7 @@ ghost use Rattle.sg_trace.specs.Replies.{SerialIn};
 ghost use Rattle.sg_trace.specs.Traces.{Begin, Ask, Commit, Rollback};
 ghost use Rattle.sg_engine.specs.declared.steps.Step.TheVariants as step;
 ghost use Rattle.sg_engine.specs.Nexts.{WaitsForNone};
-ghost use Rattle.sg_engine.specs.Stepping.{HasStepped, IsStanding, Repeats};
+ghost use Rattle.sg_engine.specs.Stepping.{HasStepped, IsStanding, Repeats, IsLeftToRefine, GivesJob};
 ghost use Rattle.sg_engine.specs.Ends.{MayRollBack, EndsJob, entry_in};
 ghost use Rattle.sg_engine.specs.Steps.{IsSameRun, SetsJob};
 ghost use Rattle.sg_engine.specs.Strangers.{IsStranger};
@@ -58,7 +57,6 @@ impl<J: Judge + Copy + Send + Sync, C: CellJudge + Copy + Send + Sync> Engine<J,
     ) -> Result<Engine<J, C>, AllocError>
         requires least { 1 ≤ settings.window }
         requires most { settings.window ≤ 8192 }
-        requires priorities { ArePriorities priorities }
         ensures stage { IfOk result (λ it. it.stage ≡ record { settings = settings; opening = rows; priorities = priorities }) }
         ensures run { IfOk result (IsRunOf []) }
         ensures jobs { IfOk result (λ it. (s : ℕ) → job_in it.jobs s ≡ no_job) }
@@ -109,12 +107,15 @@ impl<J: Judge + Copy + Send + Sync, C: CellJudge + Copy + Send + Sync> Engine<J,
         self.shared.deliver(s, done)
     }
 
-    /// One step of the session's open statement; `Idle` where there is none. A wait that stands is repeated.
-    /// `AllocError` is want of memory, which comes in neither of these cases; nothing has changed then.
+    /// One step of the session's open statement; `Idle` where there is none. A wait that stands is repeated. A job is
+    /// given exactly where no wait stands, the statement has read what it needs and something is left to refine.
+    /// `AllocError` is want of memory, which comes neither where none is open nor where a wait stands; nothing has
+    /// changed then.
     pub fn step(&mut self, s: Session) -> Result<Step, AllocError>
         ensures idle { IfOk result (λ it. (it ≡ step.Idle) ↔ (is_open_in self.old s ≡ false)) }
         ensures ok { IfOk result (HasStepped s self.old self.new) }
         ensures stands { IsStanding self.old s → IfOk result (Repeats s self.old self.new) }
+        ensures refines { IsLeftToRefine self.old s → IfOk result GivesJob }
         ensures err { OnErr result (self.new ≡ self.old) }
         ensures asking { OnErr result (is_open_in self.old s ≡ true) }
         ensures free { OnErr result (WaitsForNone self.old s) }

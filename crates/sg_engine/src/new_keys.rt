@@ -57,7 +57,7 @@ fn write_on(seat: &mut Seat, mode: Mode)
     if let Some(running) = &mut seat.running {
         running.cost += cost_of(mode);
         if let Some(pending) = &mut running.pending {
-            pending.reader = None;
+            pending.scan = None;
         }
     }
 }

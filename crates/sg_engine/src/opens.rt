@@ -9,7 +9,7 @@ ghost use Rattle.sg_engine.specs.Inside.{IsUnused};
 use crate::shared::{Seat, Shared};
 use sg_cells::{Cell, Settings};
 use sg_locks::Locks;
-use sg_modes::Priorities;
+use sg_modes::{Priorities, Session};
 use sg_plain::PlainRows;
 use sg_scan::load;
 use sg_shape::CellJudge;
@@ -31,13 +31,13 @@ impl Shared {
     ) -> Result<Shared, AllocError>
         requires least { 1 ≤ settings.window }
         requires most { settings.window ≤ 8192 }
-        requires priorities { ArePriorities priorities }
         ensures stage { IfOk result (λ it. it.stage ≡ record { settings = settings; opening = rows; priorities = priorities }) }
         ensures run { IfOk result (IsRunOf []) }
         ensures jobs { IfOk result (λ it. (s : ℕ) → job_in it.jobs s ≡ no_job) }
         ensures staged { IfOk result (λ it. IsStage it.stage) }
     {
         check_grid(&settings);
+        check_priorities(&priorities);
         let _all_rise = rows.as_slice();
         let opening = rows.copy(alloc)?;
         let loaded = load(rt, alloc, judge, &settings, rows)?;
@@ -78,6 +78,18 @@ fn unused_seats(alloc: Global) -> Result<Vec<Seat>, AllocError>
         })?;
     }
     Ok(seats)
+}
+
+/// Priorities are such as their type keeps.
+fn check_priorities(priorities: &Priorities)
+    ensures { ArePriorities priorities.now }
+{
+    match Session::new(1) {
+        None => unreachable!(),
+        Some(first) => {
+            let _priority = priorities.of(first);
+        }
+    }
 }
 
 /// A grid's limits are those that its type keeps.

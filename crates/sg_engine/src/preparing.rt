@@ -7,7 +7,7 @@ ghost use Rattle.sg_plain.specs.Sat.{IsSoundStatement};
 ghost use Rattle.sg_trace.specs.Laws.{AreSettings};
 ghost use Rattle.sg_trace.specs.Pending.{ArePending};
 ghost use Rattle.sg_trace.specs.Replies.{Reply};
-ghost use Rattle.sg_scan.specs.Cursors.{IsReaderFor};
+ghost use Rattle.sg_scan.specs.Cursors.{IsScanFor};
 ghost use Rattle.sg_scan.specs.Scans.{HasQuery};
 ghost use Rattle.sg_stores.specs.Agreement.{SeenAgree, seen_rows};
 ghost use Rattle.sg_writes.specs.Changes.{Writes, IsChangeFor, IsFresh};
@@ -108,7 +108,7 @@ fn reached_at<C: CellJudge>(
     requires open { IsSome (pending_of seat.now) }
     requires fits { length_in (λ r. r.answers) (seat_of seat.now).running + 1 < 2 ^ 64 }
     requires sound { IfSome (pending_of seat.now) (λ p. IsSoundStatement p.statement) }
-    requires reader { IfSome (pending_of seat.now) (λ p. IfSome p.reader (IsReaderFor settings.now p.statement)) }
+    requires scan { IfSome (pending_of seat.now) (λ p. IfSome p.scan (IsScanFor settings.now p.statement)) }
     requires reply { IfSome (pending_of seat.now) (λ p. IsReplying settings.now (seen_rows s rows.now.rows) p.statement p.work) }
     requires reads { IfSome (pending_of seat.now) (λ p. is_writing p.work ≡ false) }
     ensures { IfOk result (λ it. IfSome (pending_of seat.now) (λ p. IsReached settings.now (seen_rows s rows.now.rows) p.statement p.work (name_at s seat.now) it)) }
@@ -192,7 +192,7 @@ impl Pending {
         requires settings { AreSettings settings.now }
         requires agree { SeenAgree settings.now name.session rows.now.rows cells.now.rows }
         requires sound { IsSoundStatement self.now.statement }
-        requires reader { IfSome self.now.reader (IsReaderFor settings.now self.now.statement) }
+        requires scan { IfSome self.now.scan (IsScanFor settings.now self.now.statement) }
         requires reply { IsReplying settings.now (seen_rows name.session rows.now.rows) self.now.statement self.now.work }
         requires reads { is_writing self.now.work ≡ false }
         ensures { IfOk result (IsReached settings.now (seen_rows name.session rows.now.rows) self.now.statement self.now.work name) }
@@ -220,7 +220,7 @@ impl Pending {
         requires settings { AreSettings settings.now }
         requires agree { SeenAgree settings.now name.session rows.now.rows cells.now.rows }
         requires sound { IsSoundStatement self.now.statement }
-        requires reader { IfSome self.now.reader (IsReaderFor settings.now self.now.statement) }
+        requires scan { IfSome self.now.scan (IsScanFor settings.now self.now.statement) }
         ensures { IfOk result (IsReached settings.now (seen_rows name.session rows.now.rows) self.now.statement Work.Unread name) }
     {
         match &self.statement {
@@ -255,7 +255,7 @@ impl Pending {
         requires agree { SeenAgree settings.now name.session rows.now.rows cells.now.rows }
         requires query { HasQuery self.now.statement }
         requires sound { IsSoundStatement self.now.statement }
-        requires reader { IfSome self.now.reader (IsReaderFor settings.now self.now.statement) }
+        requires scan { IfSome self.now.scan (IsScanFor settings.now self.now.statement) }
         ensures { IfOk result (IsReached settings.now (seen_rows name.session rows.now.rows) self.now.statement Work.Unread name) }
     {
         let _sound = rows.present(0);
@@ -284,11 +284,11 @@ impl Pending {
         requires settings { AreSettings settings.now }
         requires query { HasQuery self.now.statement }
         requires sound { IsSoundStatement self.now.statement }
-        requires reader { IfSome self.now.reader (IsReaderFor settings.now self.now.statement) }
+        requires scan { IfSome self.now.scan (IsScanFor settings.now self.now.statement) }
         ensures { SeenAgree settings.now s rows.now.rows cells.now.rows → IfOk result (IsFoundBy settings.now (seen_rows s rows.now.rows) self.now.statement) }
     {
-        match &self.reader {
-            Some(reader) => reader.scan.found(alloc, s, rows, cells),
+        match &self.scan {
+            Some(scan) => scan.found(alloc, s, rows, cells),
             None => {
                 let scan = Scan::of(alloc, judge, settings, &self.statement)?;
                 scan.found(alloc, s, rows, cells)

@@ -6,7 +6,7 @@ ghost use Rattle.sg_scan.specs.Scans.{Asks};
 ghost use Rattle.sg_engine.specs.Shown.{is_open_in};
 ghost use Rattle.sg_engine.specs.Inside.{SeatChanges};
 ghost use Rattle.sg_engine.specs.Nexts.{IsNext, WaitsForNone, HasReadAll};
-ghost use Rattle.sg_engine.specs.Searches.{pending_of, OnlyPending, IsReaderAt, IsSearched, IsReadNeed};
+ghost use Rattle.sg_engine.specs.Searches.{pending_of, OnlyPending, IsScanAt, IsSearched, IsReadNeed};
 
 use crate::shared::{Pending, Seat, Shared};
 use sg_cellrows::CellRows;
@@ -15,7 +15,7 @@ use sg_locks::Locks;
 use sg_modes::{Mode, Session};
 use sg_plain::Statement;
 use sg_rows::Rows;
-use sg_scan::Reader;
+use sg_scan::Scan;
 use sg_shape::CellJudge;
 use std::alloc::{AllocError, Global};
 
@@ -32,6 +32,7 @@ impl Shared {
         ensures same { self.new ≡ self.old }
         ensures take { IfOk result (λ need. IfSome need (λ p. IsNext self.old s (Takes p.0 p.1))) }
         ensures read { IfOk result (λ need. need ≡ None → HasReadAll self.old s) }
+        ensures unread { HasReadAll self.old s → IfOk result (λ need. need ≡ None) }
     {
         let _number = s.number();
         let alloc = self.alloc;
@@ -64,7 +65,7 @@ fn read_at<C: CellJudge>(
     requires settings { AreSettings settings.now }
     requires open { IsSome (pending_of seat.old) }
     requires sound { IfSome (pending_of seat.old) (λ p. IsSoundStatement p.statement) }
-    requires reader { IfSome (pending_of seat.old) (λ p. IfSome p.reader (IsReaderAt settings.now locks.now.grants s rows.now.rows cells.now.rows p.statement)) }
+    requires scan { IfSome (pending_of seat.old) (λ p. IfSome p.scan (IsScanAt settings.now locks.now.grants s rows.now.rows cells.now.rows p.statement)) }
     ensures seat { SeatChanges (OnlyPending (IsSearched settings.now locks.now.grants s rows.now.rows cells.now.rows)) seat.old seat.new }
     ensures need { IfOk result (λ need. IfSome (pending_of seat.old) (λ p. IsReadNeed settings.now locks.now.grants s rows.now.rows cells.now.rows p.statement need)) }
 {
@@ -91,7 +92,7 @@ impl Pending {
     ) -> Result<Option<(Key, Mode)>, AllocError>
         requires settings { AreSettings settings.now }
         requires sound { IsSoundStatement self.old.statement }
-        requires reader { IfSome self.old.reader (IsReaderAt settings.now locks.now.grants s rows.now.rows cells.now.rows self.old.statement) }
+        requires scan { IfSome self.old.scan (IsScanAt settings.now locks.now.grants s rows.now.rows cells.now.rows self.old.statement) }
         ensures pending { IsSearched settings.now locks.now.grants s rows.now.rows cells.now.rows self.old self.new }
         ensures need { IfOk result (IsReadNeed settings.now locks.now.grants s rows.now.rows cells.now.rows self.old.statement) }
     {
@@ -99,13 +100,13 @@ impl Pending {
             return Ok(None);
         }
         self.begin_to_read(alloc, judge, settings, s, rows, cells, locks)?;
-        match &mut self.reader {
+        match &mut self.scan {
             None => unreachable!(),
-            Some(reader) => Ok(reader.need(s, rows, cells, locks)),
+            Some(scan) => Ok(scan.need(s, rows, cells, locks)),
         }
     }
 
-    /// Sees to it that the statement, which asks about rows, has its reader.
+    /// Sees to it that the statement, which asks about rows, has its scan.
     fn begin_to_read<C: CellJudge>(
         &mut self,
         alloc: Global,
@@ -119,15 +120,15 @@ impl Pending {
         requires settings { AreSettings settings.now }
         requires asks { Asks self.old.statement }
         requires sound { IsSoundStatement self.old.statement }
-        requires reader { IfSome self.old.reader (IsReaderAt settings.now locks.now.grants s rows.now.rows cells.now.rows self.old.statement) }
+        requires scan { IfSome self.old.scan (IsScanAt settings.now locks.now.grants s rows.now.rows cells.now.rows self.old.statement) }
         ensures pending { IsSearched settings.now locks.now.grants s rows.now.rows cells.now.rows self.old self.new }
-        ensures reader { OnOk result (IsSome self.new.reader) }
+        ensures scan { OnOk result (IsSome self.new.scan) }
     {
-        if self.reader.is_some() {
+        if self.scan.is_some() {
             return Ok(());
         }
-        let reader = Reader::of(alloc, judge, settings, &self.statement)?;
-        self.reader = Some(reader);
+        let scan = Scan::of(alloc, judge, settings, &self.statement)?;
+        self.scan = Some(scan);
         Ok(())
     }
 }

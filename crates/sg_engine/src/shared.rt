@@ -13,7 +13,7 @@ use sg_modes::{Mode, Priorities, Session};
 use sg_plain::{PlainRows, Statement};
 use sg_refine::{RefineDone, RefineJob};
 use sg_rows::Rows;
-use sg_scan::{Found, Reader};
+use sg_scan::{Found, Scan};
 use sg_trace::{Journal, KeptAnswers, KeptStatements, Label, Roomy, Trace};
 use sg_waits::Waits;
 use sg_writes::Change;
@@ -38,7 +38,7 @@ pub(crate) enum Work {
 pub(crate) struct Pending {
     pub(crate) statement: Statement,
     /// What it reads, once it has begun to.
-    pub(crate) reader: Option<Reader>,
+    pub(crate) scan: Option<Scan>,
     pub(crate) work: Work,
     /// Once it writes, whether the result of its job was delivered.
     pub(crate) delivered: bool,
@@ -248,7 +248,7 @@ fn open_one(seat: &mut Seat, statement: Statement) -> Result<u64, AskBack>
             Ok(()) => {
                 running.pending = Some(Pending {
                     statement,
-                    reader: None,
+                    scan: None,
                     work: Work::Unread,
                     delivered: false,
                 });

@@ -7,7 +7,8 @@ ghost use Rattle.sg_engine.specs.Nexts.{IsNext, WaitsForNone, HasReadAll};
 ghost use Rattle.sg_engine.specs.Steps.{OpenReads, HasAllMet, Stands};
 ghost use Rattle.sg_engine.specs.Wishes.{IsWish, AreInTheWay};
 ghost use Rattle.sg_engine.specs.Outside.{outside};
-ghost use Rattle.sg_engine.specs.Stepping.{HasStepped, IsStanding, Repeats};
+ghost use Rattle.sg_engine.specs.Preparing.{HasNoneLeft};
+ghost use Rattle.sg_engine.specs.Stepping.{HasStepped, IsStanding, Repeats, IsLeftToRefine, GivesJob};
 
 use crate::preparing::Prepared;
 use crate::shared::{Seat, Shared, Work};
@@ -56,6 +57,7 @@ impl Shared {
         ensures idle { IfOk result (λ it. (it ≡ step.Idle) ↔ (is_open_in self.old s ≡ false)) }
         ensures ok { IfOk result (HasStepped s (outside self.old) (outside self.new)) }
         ensures stands { IsStanding self.old s → IfOk result (Repeats s (outside self.old) (outside self.new)) }
+        ensures refines { IsLeftToRefine (outside self.old) s → IfOk result GivesJob }
         ensures err { OnErr result (outside self.new ≡ outside self.old) }
         ensures asking { OnErr result (is_open_in self.old s ≡ true) }
         ensures free { OnErr result (WaitsForNone self.old s) }
@@ -98,6 +100,7 @@ impl Shared {
         requires open { is_open_in self.old s ≡ true }
         requires free { WaitsForNone self.old s }
         ensures ok { IfOk result (HasStepped s (outside self.old) (outside self.new)) }
+        ensures refines { IsLeftToRefine (outside self.old) s → IfOk result GivesJob }
         ensures busy { IfOk result (λ it. it ≢ step.Idle) }
         ensures err { OnErr result (outside self.new ≡ outside self.old) }
     {
@@ -114,6 +117,7 @@ impl Shared {
         requires free { WaitsForNone self.old s }
         requires read { HasReadAll self.old s }
         ensures ok { IfOk result (HasStepped s (outside self.old) (outside self.new)) }
+        ensures refines { IsLeftToRefine (outside self.old) s → IfOk result GivesJob }
         ensures busy { IfOk result (λ it. it ≢ step.Idle) }
         ensures err { OnErr result (outside self.new ≡ outside self.old) }
     {
@@ -241,7 +245,8 @@ impl Shared {
 
     /// Whether the session's open statement has come to its writes.
     fn has_come_to_writes(&self, s: Session) -> bool
-        ensures { result ≡ (job_in self.now.jobs s).writes }
+        ensures writes { result ≡ (job_in self.now.jobs s).writes }
+        ensures left { result ≡ true → HasNoneLeft self.now s }
     {
         let _number = s.number();
         is_writing(&self.seats[s.index()])

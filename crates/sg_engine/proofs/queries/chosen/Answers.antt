@@ -1,6 +1,6 @@
 use Rattle.std.proofs.Common.{ℕ, List, [], ◌∷◌, ◌++◌, refl, sym, subst, slice_index_or}
 use Rattle.sg_plain.specs.Keys.{IsRising}
-use Rattle.sg_table.proofs.Choices.{chosen_next}
+use Rattle.sg_engine.proofs.Choices.{chosen_next}
 use Rattle.sg_engine.proofs.queries.chosen.Goals as goal
 
 pub push-requires : goal.push-requires

@@ -1,6 +1,6 @@
 use Rattle.std.proofs.Common.{sym, Err}
 use Rattle.std.proofs.lemmas.List.Sorted.{searched}
-use Rattle.sg_table.proofs.Choices.{has_key-gap, never_falls}
+use Rattle.sg_engine.proofs.Choices.{has_key-gap, never_falls}
 use Rattle.sg_engine.proofs.queries.holds.Goals as goal
 
 pub returns-in-Err : goal.returns-in-Err

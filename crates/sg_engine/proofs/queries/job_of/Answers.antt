@@ -3,7 +3,7 @@ use Rattle.sg_plain.specs.Keys.{IsRising}
 use Rattle.sg_plain.specs.Rows.{Rows}
 use Rattle.sg_stores.specs.Agreement.{seen_rows}
 use Rattle.sg_trace.specs.Pending.{ArePending}
-use Rattle.sg_table.proofs.Waiting.{pending_below, pending_next}
+use Rattle.sg_engine.proofs.Gathered.{pending_below, pending_next}
 use Rattle.sg_engine.proofs.queries.job_of.Goals as goal
 
 pub offer-requires-clause-above : goal.offer-requires-clause-above

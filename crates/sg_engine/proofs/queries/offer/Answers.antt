@@ -1,6 +1,6 @@
 use Rattle.std.proofs.Common.{sym, subst}
 use Rattle.sg_shape.specs.Sound.{IsSound}
-use Rattle.sg_table.proofs.Waiting.{goes_last}
+use Rattle.sg_engine.proofs.Gathered.{goes_last}
 use Rattle.sg_engine.proofs.queries.offer.Goals as goal
 
 pub push-requires : goal.push-requires

@@ -3,7 +3,7 @@ use Rattle.std.specs.Option.{option_copied}
 use Rattle.sg_plain.specs.Rows.{shape_at}
 use Rattle.sg_stores.specs.Agreement.{seen_rows}
 use Rattle.sg_stores.proofs.Picked.{shape_at-seen, seen_are_rows}
-use Rattle.sg_table.proofs.Satisfying.{seen_sound}
+use Rattle.sg_engine.proofs.Satisfying.{seen_sound}
 use Rattle.sg_engine.proofs.queries.shape_of.Goals as goal
 
 pub returns-clause-shape : goal.returns-clause-shape

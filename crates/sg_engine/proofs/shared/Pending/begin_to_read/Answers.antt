@@ -6,5 +6,5 @@ returns-clause-pending g c = record {
   statement = refl;
   work = refl;
   delivered = refl;
-  reader = record { reader_for = c.in_ok-reader.ensures.reader; passed = c.in_ok-reader.ensures.fresh c.requires.settings c.args.locks.now.grants c.args.s c.args.rows.now.rows c.args.cells.now.rows };
+  scan = record { scan_for = c.in_ok-scan.ensures.scan; passed = c.in_ok-scan.ensures.fresh c.requires.settings c.args.locks.now.grants c.args.s c.args.rows.now.rows c.args.cells.now.rows };
 }

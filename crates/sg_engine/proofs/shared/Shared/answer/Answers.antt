@@ -1,4 +1,4 @@
-use Rattle.std.proofs.Common.{◌≡◌, List, [], ◌∷◌, ◌++◌, set, sym, ap, ◌∙◌, subst, arith}
+use Rattle.std.proofs.Common.{List, [], ◌∷◌, ◌++◌, set, sym, ap, ◌∙◌, subst, arith}
 use Rattle.sg_trace.specs.declared.labels.Label.{Label}
 use Rattle.sg_trace.specs.declared.labels.Label.TheVariants as label
 use Rattle.sg_trace.specs.Traces.{Stage}

@@ -15,7 +15,7 @@ invariant_of-result g c =
     let staged : IsStage stage = record {
       settings = record { grid = c.check_grid.ensures; least = c.requires.least; most = c.requires.most };
       rows = subst AreRows (sym c.in_ok-opening.ensures) c.as_slice-all_rise.ensures.rows;
-      priorities = c.requires.priorities;
+      priorities = c.check_priorities.ensures;
     } in
     opened_engine stage staged c.in_ok-loaded.loaded.rows.rows c.in_ok-loaded.loaded.cells.rows (c.in_ok-loaded.ensures.rows ∙ ap (λ (rows : Rows). map loaded_row rows) (sym c.in_ok-opening.ensures))
     (subst (λ (rows : Rows). AreLoaded c.args.settings rows c.in_ok-loaded.loaded.cells.rows) (sym c.in_ok-opening.ensures) c.in_ok-loaded.ensures.cells)
@@ -35,5 +35,5 @@ pub returns-clause-staged : goal.returns-clause-staged
 returns-clause-staged g c = record {
   settings = record { grid = c.check_grid.ensures; least = c.requires.least; most = c.requires.most };
   rows = subst AreRows (sym c.in_ok-opening.ensures) c.as_slice-all_rise.ensures.rows;
-  priorities = c.requires.priorities;
+  priorities = c.check_priorities.ensures;
 }

@@ -12,7 +12,7 @@ use Rattle.sg_engine.specs.Reaching.{settled_at, prepared_of}
 use Rattle.sg_engine.proofs.Begins.{within_is}
 use Rattle.sg_engine.proofs.Seats.{seat_at}
 use Rattle.sg_engine.proofs.Nexts.{has_pending, sounds}
-use Rattle.sg_engine.proofs.Prepared.{same_read, answers_fit, reader_for, replying, comes_engine, comes_prepares, comes_left}
+use Rattle.sg_engine.proofs.Prepared.{same_read, answers_fit, scan_for, replying, comes_engine, comes_prepares, comes_left}
 use Rattle.sg_engine.proofs.shared.Shared.prepare.Goals as goal
 
 pub reached_at-requires-clause-fits : goal.reached_at-requires-clause-fits
@@ -38,14 +38,14 @@ reached_at-requires-clause-sound g c =
     sounds stage v.trace.items v.journal.items v.seats.items v.rows.rows v.cells.rows v.locks.grants v.waits v.live v.trace.spare v.journal.spare c.self.invariant
     c.args.s c.index-place.result c.number-number.ensures.range within c.index-place.ensures.place d c.index.ensures
 
-pub reached_at-requires-clause-reader : goal.reached_at-requires-clause-reader
-reached_at-requires-clause-reader g c =
+pub reached_at-requires-clause-scan : goal.reached_at-requires-clause-scan
+reached_at-requires-clause-scan g c =
     let v = c.self.inside in
     let stage : Stage = record { settings = v.settings; opening = v.opening; priorities = v.priorities } in
     let d = c.index.result.now in
     let within = within_is stage v.trace.items v.journal.items v.seats.items v.rows.rows v.cells.rows v.locks.grants v.waits v.live v.trace.spare v.journal.spare c.self.invariant
     c.args.s c.index-place.result c.number-number.ensures.range c.index-place.ensures.below c.index-place.ensures.place d c.index.ensures in
-    reader_for stage v.trace.items v.journal.items v.seats.items v.rows.rows v.cells.rows v.locks.grants v.waits v.live v.trace.spare v.journal.spare c.self.invariant
+    scan_for stage v.trace.items v.journal.items v.seats.items v.rows.rows v.cells.rows v.locks.grants v.waits v.live v.trace.spare v.journal.spare c.self.invariant
     c.args.s c.index-place.result c.number-number.ensures.range within c.index-place.ensures.place d c.index.ensures
 
 pub reached_at-requires-clause-reply : goal.reached_at-requires-clause-reply

@@ -1,4 +1,4 @@
-use Rattle.std.proofs.Common.{◌≡◌, ◌≤◌, List, [], ◌∷◌, ◌++◌, length, sym, ap, ◌∙◌, subst, arith, false}
+use Rattle.std.proofs.Common.{◌≡◌, List, [], ◌∷◌, ◌++◌, length, sym, ap, ◌∙◌, subst, arith, false}
 use Rattle.sg_locks.specs.Grants.{Grant, has_grant, AddsGrant, IsUnblocked}
 use Rattle.sg_cells.specs.declared.keys.Key.{Key}
 use Rattle.sg_stores.specs.Held.{key_cmp}
