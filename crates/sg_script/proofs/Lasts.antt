@@ -1,11 +1,14 @@
 -- The last session of a script.
-use Rattle.std.proofs.Common.{Contains, ◌≡◌, ◌≢◌, ℕ, zero, suc, ◌-◌, ◌+◌, ◌≤◌, List, [], ◌∷◌, ◌++◌, length, get_or, map, refl, sym, ap, ◌∙◌, subst, arith}
+use Rattle.std.proofs.Common.{Contains, Some, take, append_assoc, ◌≡◌, ◌≢◌, ℕ, zero, suc, ◌-◌, ◌+◌, ◌≤◌, ◌<◌, List, [], ◌∷◌, ◌++◌, length, get_or, map, refl, sym, ap, ◌∙◌, subst, arith}
 use Rattle.std.proofs.Math.ListN.{set}
 use Rattle.sg_cells.specs.declared.settings.Settings.{Settings}
 use Rattle.sg_plain.specs.Transactions.{TransactionPlan}
 use Rattle.sg_script.specs.declared.sessions.SessionScript.{SessionScript}
 use Rattle.sg_plain.specs.Rows.{Rows}
-use Rattle.std.proofs.lemmas.List.Elements.{Contains-append_left, All-weaker}
+use Rattle.std.proofs.lemmas.List.{take_more}
+use Rattle.std.proofs.lemmas.List.Elements.{Contains-append_left, All-weaker, All-append, All-take}
+use Rattle.std.proofs.lemmas.Option.{get_or_from_slice_get, slice_get_within}
+use Rattle.std.specs.Prelude.{slice_get}
 use Rattle.sg_script.specs.Plans.{IsOrderOf, Plan, above_all, with_transaction, numbers_of}
 use Rattle.sg_plain.specs.Keys.{IsRising, RisesFrom}
 
@@ -41,6 +44,10 @@ plan_with settings rows order sessions = record { settings = settings; rows = ro
 some_length : (ss : List SessionScript) → ss ≢ [] → suc (length ss - 1) ≡ length ss
 some_length [] e = absurd (e refl)
 some_length (s ∷ ss) e = omega arith
+
+-- the last place is one of the list
+pub last_within : (ss : List SessionScript) (n : ℕ) → ss ≢ [] → n ≡ length ss → n - 1 < length ss
+last_within ss n some e = omega (arith, some_length ss some)
 
 pub added_last : (plan : Plan) (settings : Settings) (rows : Rows) (order : List ℕ) (items : List SessionScript) (n : ℕ) (x : SessionScript) (ts : List TransactionPlan) (t : TransactionPlan) →
     plan_with settings rows order items ≡ plan → plan.sessions ≢ [] → n ≡ length items → x ≡ get_or items (n - 1) x → ts ≡ x.transactions ++ t ∷ [] →
@@ -93,3 +100,16 @@ pub order_later : (ss : List SessionScript) (s : SessionScript) (order : List �
 order_later ss s order h =
     subst (λ (ns : List ℕ). IsOrderOf ns order) (sym (numbers_of-append ss s))
     (All-weaker (λ n. Contains (numbers_of ss) n) (λ n. Contains (numbers_of ss ++ s.session ∷ []) n) (λ n. later (numbers_of ss) s.session n) order h)
+
+-- a further turn of these, after those that were put
+pub turn_put : (old order new turns : List ℕ) (i s : ℕ) → order ≡ old ++ take i turns → slice_get turns i ≡ Some s → new ≡ order ++ s ∷ [] → new ≡ old ++ take (i + 1) turns
+turn_put old order new turns i s o at n =
+    n ∙ (ap (λ (xs : List ℕ). xs ++ s ∷ []) o
+    ∙ (append_assoc old (take i turns) (s ∷ [])
+    ∙ ap (λ (xs : List ℕ). old ++ xs)
+    (ap (λ (x : ℕ). take i turns ++ x ∷ []) (sym (get_or_from_slice_get turns i s 0 at)) ∙ sym (take_more turns i 0 (slice_get_within turns i s at)))))
+
+-- all that was put is of the sessions
+pub put_each : (numbers old order turns : List ℕ) (i : ℕ) → order ≡ old ++ take i turns → IsOrderOf numbers old → IsOrderOf numbers turns → IsOrderOf numbers order
+put_each numbers old order turns i o h t =
+    subst (IsOrderOf numbers) (sym o) (All-append (Contains numbers) old (take i turns) h (All-take (Contains numbers) i turns t))

@@ -1,3 +1,15 @@
 pub mod LineLemmas
+pub mod WordLemmas
+pub mod SetLemmas
+pub mod TurnLemmas
 pub mod Sizes
 pub mod Lasts
+pub mod SoundSessions
+pub mod LineTexts
+pub mod Spelled
+pub mod OneLine
+pub mod Backs
+pub mod GridBack
+pub mod TurnsBack
+pub mod StepsBack
+pub mod ScriptBack

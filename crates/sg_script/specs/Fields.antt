@@ -1,5 +1,6 @@
 -- The fields of a line: runs of bytes that aren't blank.
 use Rattle.std.specs.Prelude.{ℕ, ◌+◌, ◌==◌, Bool, true, ◌||◌, if◌then◌else◌, List, [], ◌∷◌, take, drop}
+use Rattle.sg_script.specs.Lines.{longer}
 
 -- space, tab and carriage return
 abbrev pub is_blank : ℕ → Bool
@@ -21,6 +22,16 @@ field text = take (word_length (after_blanks text)) (after_blanks text)
 
 abbrev pub after_field : List ℕ → List ℕ
 after_field text = drop (word_length (after_blanks text)) (after_blanks text)
+
+-- with a byte before these fields, which goes with the first where no blank follows
+abbrev pub joined : ℕ → List ℕ → List (List ℕ) → List (List ℕ)
+joined b [] words = (b ∷ []) ∷ words
+joined b (c ∷ cs) words = if is_blank c then (b ∷ []) ∷ words else longer b words
+
+-- all fields
+abbrev pub words : List ℕ → List (List ℕ)
+words [] = []
+words (b ∷ bs) = if is_blank b then words bs else joined b bs (words bs)
 
 -- no field, or a comment, whose first byte is #
 abbrev pub says_nothing : List ℕ → Bool

@@ -8,6 +8,7 @@ use Rattle.sg_cells.specs.Grids.{grid_fault, grid_within}
 use Rattle.sg_cells.specs.declared.density.Density.{Density}
 use Rattle.sg_cells.specs.declared.density.Density.TheVariants as density
 use Rattle.sg_cells.specs.declared.faults.GridFault.{GridFault}
+use Rattle.sg_modes.specs.Sessions.{has_session}
 use Rattle.sg_wkt.specs.declared.faults.WktFault.{WktFault}
 use Rattle.sg_wkt.specs.Grammar.{shape_in}
 use Rattle.sg_plain.specs.Rows.{Rows, keys_of}
@@ -28,7 +29,7 @@ use Rattle.sg_script.specs.declared.words.Place.{Place}
 use Rattle.sg_script.specs.declared.words.Place.TheVariants as place
 use Rattle.sg_script.specs.declared.words.Word.{Word}
 use Rattle.sg_script.specs.declared.words.Word.TheVariants as word
-use Rattle.sg_script.specs.Fields.{after_blanks, field, after_field, is_skipped}
+use Rattle.sg_script.specs.Fields.{after_blanks, field, after_field, words, is_skipped}
 use Rattle.sg_script.specs.Lines.{lines}
 use Rattle.sg_script.specs.Numbers.{number}
 use Rattle.sg_script.specs.Plans.{Plan, above_all, numbers_of, with_transaction}
@@ -229,21 +230,6 @@ window_line text = do
   Ok (line.Window n)
 
 -- ---- lines, after their first word
--- the least key that the next row may have, and the least number that the next session may have
-pub record Least : Type 0 where
-  pub key : ℕ
-  pub session : ℕ
-
-abbrev pub least_of : Plan → Least
-least_of plan = record { key = above_all (keys_of plan.rows); session = above_all (numbers_of plan.sessions) }
-
--- what a script spells so far: the plan, whether a line told the window, and the statements of the transaction
--- that is open, if one is
-pub record Draft : Type 0 where
-  pub plan : Plan
-  pub windowed : Bool
-  pub pending : Option (List Statement)
-
 unfoldable pub row_line : ℕ → List ℕ → Result Line ScriptKind
 row_line least text = do
   k ← key least text
@@ -316,56 +302,96 @@ filter_line text = do
   s ← shape text
   Ok (line.Statement (statement.Filter s))
 
-abbrev pub fields : Least → Word → List ℕ → Result Line ScriptKind
-fields least word.Grid text = grid_line text
-fields least word.Window text = window_line text
-fields least word.Row text = row_line least.key text
-fields least word.Session text = session_line least.session text
-fields least word.Begin text = bare_line line.Begin text
-fields least word.Commit text = bare_line (line.End end.Commit) text
-fields least word.Rollback text = bare_line (line.End end.Rollback) text
-fields least word.Insert text = insert_line text
-fields least word.Update text = update_line text
-fields least word.Delete text = delete_line text
-fields least word.Get text = get_line text
-fields least word.Select text = select_line text
-fields least word.Filter text = filter_line text
-fields least word.Plan text = plan_line text
+-- a session among these
+abbrev pub one_of : List ℕ → ℕ → Result ℕ ScriptKind
+one_of numbers n = if has_session numbers n then Ok n else Err kind.Session
+
+-- the session of a turn, by its number
+unfoldable pub turn : List ℕ → List ℕ → Result ℕ ScriptKind
+turn numbers word = do
+  n ← session_from 0 (number word)
+  one_of numbers n
+
+-- the sessions of the turns, one after another
+abbrev pub turns : List ℕ → List (List ℕ) → Result (List ℕ) ScriptKind
+turns numbers [] = Ok []
+turns numbers (w ∷ ws) = do
+  n ← turn numbers w
+  ns ← turns numbers ws
+  Ok (n ∷ ns)
+
+unfoldable pub schedule_line : List ℕ → List ℕ → Result Line ScriptKind
+schedule_line numbers text = do
+  ns ← turns numbers (words text)
+  Ok (line.Schedule ns)
+
+-- The key of a row and the number of a session are above those of the script so far, and turns are of its sessions.
+abbrev pub fields : Plan → Word → List ℕ → Result Line ScriptKind
+fields plan word.Grid text = grid_line text
+fields plan word.Window text = window_line text
+fields plan word.Row text = row_line (above_all (keys_of plan.rows)) text
+fields plan word.Session text = session_line (above_all (numbers_of plan.sessions)) text
+fields plan word.Schedule text = schedule_line (numbers_of plan.sessions) text
+fields plan word.Begin text = bare_line line.Begin text
+fields plan word.Commit text = bare_line (line.End end.Commit) text
+fields plan word.Rollback text = bare_line (line.End end.Rollback) text
+fields plan word.Insert text = insert_line text
+fields plan word.Update text = update_line text
+fields plan word.Delete text = delete_line text
+fields plan word.Get text = get_line text
+fields plan word.Select text = select_line text
+fields plan word.Filter text = filter_line text
+fields plan word.Plan text = plan_line text
 
 -- ---- where lines may stand
+-- what a script spells so far: the plan, whether a line told the window, whether a line told turns, and the
+-- statements of the transaction that is open, if one is
+pub record Draft : Type 0 where
+  pub plan : Plan
+  pub windowed : Bool
+  pub scheduled : Bool
+  pub pending : Option (List Statement)
+
 -- before the first session, after these rows; front is where no row is
 abbrev pub place_before : Place → Rows → Place
 place_before front [] = front
 place_before front (row ∷ rows) = place.Opening
 
-abbrev pub place_in : Place → Option (List Statement) → List ℕ → Rows → Place
-place_in front (Some statements) numbers rows = place.Open
-place_in front None [] rows = place_before front rows
-place_in front None (n ∷ numbers) rows = place.Between
+abbrev pub place_in : Place → Option (List Statement) → Bool → List ℕ → Rows → Place
+place_in front (Some statements) scheduled numbers rows = place.Open
+place_in front None true numbers rows = place.Turns
+place_in front None false [] rows = place_before front rows
+place_in front None false (n ∷ numbers) rows = place.Between
 
 abbrev pub place_of : Draft → Place
-place_of d = place_in (place.Front (is_some d.plan.settings.grid) d.windowed) d.pending (numbers_of d.plan.sessions) d.plan.rows
+place_of d = place_in (place.Front (is_some d.plan.settings.grid) d.windowed) d.pending d.scheduled (numbers_of d.plan.sessions) d.plan.rows
 
 -- a line that may stand once
 abbrev pub once : Bool → Result (Unit {0}) ScriptKind
 once true = Err kind.Word
 once false = Ok tt
 
--- The grid and the window come first, in either order, then rows; each session's transactions follow its line;
--- within one stand its statements, and its end.
+-- The grid and the window come first, in either order, then rows, then sessions, and turns last; each session's
+-- transactions follow its line; within one stand its statements, and its end.
 abbrev pub stands : Place → Word → Result (Unit {0}) ScriptKind
 stands (place.Front grid window) word.Grid = once grid
 stands (place.Front grid window) word.Window = once window
 stands (place.Front grid window) word.Row = Ok tt
 stands (place.Front grid window) word.Session = Ok tt
+stands (place.Front grid window) word.Schedule = Ok tt
 stands (place.Front grid window) w = Err kind.Word
 stands place.Opening word.Row = Ok tt
 stands place.Opening word.Session = Ok tt
+stands place.Opening word.Schedule = Ok tt
 stands place.Opening w = Err kind.Word
 stands place.Between word.Session = Ok tt
 stands place.Between word.Begin = Ok tt
+stands place.Between word.Schedule = Ok tt
 stands place.Between w = Err kind.Word
+stands place.Turns word.Schedule = Ok tt
+stands place.Turns w = Err kind.Word
 stands place.Open word.Session = Err kind.NotClosed
+stands place.Open word.Schedule = Err kind.NotClosed
 stands place.Open word.Grid = Err kind.Word
 stands place.Open word.Window = Err kind.Word
 stands place.Open word.Row = Err kind.Word
@@ -381,7 +407,7 @@ unfoldable pub line_in : Draft → List ℕ → Result Line ScriptKind
 line_in d text = do
   w ← known (word_of (field text))
   _ ← stands (place_of d) w
-  fields (least_of d.plan) w (after_field text)
+  fields d.plan w (after_field text)
 
 -- ---- the script
 abbrev pub added : Option (List Statement) → Statement → Option (List Statement)
@@ -406,6 +432,7 @@ with_line d (line.Session n p) = record d {
 with_line d line.Begin = record d { pending = Some [] }
 with_line d (line.Statement s) = record d { pending = added d.pending s }
 with_line d (line.End e) = record d { plan = closed d.pending e d.plan; pending = None }
+with_line d (line.Schedule turns) = record d { plan = record d.plan { order = d.plan.order ++ turns }; scheduled = true }
 
 -- the script with a line that may say nothing
 unfoldable pub step : Draft → List ℕ → Result Draft ScriptKind
@@ -432,6 +459,7 @@ abbrev pub empty_draft : Draft
 empty_draft = record {
   plan = record { settings = record { grid = None; window = 64 }; rows = []; sessions = []; order = [] };
   windowed = false;
+  scheduled = false;
   pending = None;
 }
 

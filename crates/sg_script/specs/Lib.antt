@@ -7,3 +7,5 @@ pub mod Grammar
 pub mod Gives
 pub mod Fits
 pub mod Reads
+pub mod Canonical
+pub mod Told

@@ -2,8 +2,10 @@
 -- in which order.
 use Rattle.std.specs.Prelude.{ℕ, ◌+◌, ◌≤◌, ◌==◌, if◌then◌else◌, List, [], ◌∷◌, ◌++◌, map, slice_get, All, Contains, Option, Some, None}
 use Rattle.sg_cells.specs.declared.settings.Settings.{Settings}
+use Rattle.sg_modes.specs.Priorities.{IsPriority}
 use Rattle.sg_plain.specs.Keys.{IsRising}
 use Rattle.sg_plain.specs.Rows.{Rows}
+use Rattle.sg_plain.specs.Sat.{AreSound}
 use Rattle.sg_plain.specs.Transactions.{TransactionPlan, SessionPlan}
 use Rattle.sg_script.specs.declared.sessions.SessionScript.{SessionScript}
 
@@ -55,8 +57,14 @@ pub record IsWindow (window : ℕ) : Type 0 where
   pub some : 1 ≤ window
   pub most : window ≤ 8192
 
--- the window is one, the numbers of the sessions rise, and the turns are theirs
+-- its priority is one, and each statement of its transactions is sound
+pub record IsSoundSession (s : SessionScript) : Type 0 where
+  pub priority : IsPriority s.priority
+  pub statements : All (λ t. AreSound t.statements) s.transactions
+
+-- the window is one, the numbers of the sessions rise, the sessions are sound, and the turns are theirs
 pub record IsPlan (settings : Settings) (sessions : List SessionScript) (order : List ℕ) : Type 0 where
   pub window : IsWindow settings.window
   pub rising : IsRising (numbers_of sessions)
+  pub sound : All IsSoundSession sessions
   pub turns : IsOrderOf (numbers_of sessions) order

@@ -10,10 +10,11 @@ frame_word field =
     else (if bytes_eq field (codes "window") then Some word.Window
     else (if bytes_eq field (codes "row") then Some word.Row
     else (if bytes_eq field (codes "session") then Some word.Session
+    else (if bytes_eq field (codes "schedule") then Some word.Schedule
     else (if bytes_eq field (codes "begin") then Some word.Begin
     else (if bytes_eq field (codes "commit") then Some word.Commit
     else (if bytes_eq field (codes "rollback") then Some word.Rollback
-    else None))))))
+    else None)))))))
 
 abbrev pub statement_word : List ℕ → Option Word
 statement_word field =

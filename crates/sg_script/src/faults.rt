@@ -10,9 +10,10 @@ pub enum ScriptKind {
     Number,
     /// The shape has this fault, whose place is counted from the shape's first byte.
     Shape(WktFault),
-    /// The session's number isn't from 1 to 64, or isn't above the last session's.
+    /// The session's number isn't from 1 to 64, isn't above the last session's, or, in a turn, is no session's
+    /// of the script.
     Session,
-    /// A transaction is still open where a session begins or the text ends.
+    /// A transaction is still open where a session begins, turns are told, or the text ends.
     NotClosed,
     /// The line of the grid is spelled as one, but there is no such grid, for this reason.
     Grid(GridFault),

@@ -1,5 +1,5 @@
-ghost use Rattle.std.specs.Prelude.{◌≡◌, ◌≤◌, length};
-ghost use Rattle.sg_script.specs.Fields.{after_blanks, after_field, field, is_blank, is_skipped, word_length};
+ghost use Rattle.std.specs.Prelude.{◌≡◌, [], ◌∷◌, MatchOption, IfSome, ◌≤◌, ◌<◌, length};
+ghost use Rattle.sg_script.specs.Fields.{after_blanks, after_field, field, is_blank, is_skipped, word_length, words};
 
 fn is_blank(byte: u8) -> bool
     ensures { result ≡ is_blank byte }
@@ -26,6 +26,19 @@ pub fn first_field(text: &[u8]) -> (&[u8], &[u8])
 {
     let text = skip_blanks(text);
     text.split_at(word_length(text))
+}
+
+/// The first field of a line, and the text after it: `None` exactly where the line has no field.
+pub fn next_field(text: &[u8]) -> Option<(&[u8], &[u8])>
+    ensures words { MatchOption result (words text.now ≡ []) (λ r. words text.now ≡ r.0.now ∷ words r.1.now) }
+    ensures less { IfSome result (λ r. length r.1.now < length text.now) }
+{
+    let (field, rest) = first_field(text);
+    if field.is_empty() {
+        None
+    } else {
+        Some((field, rest))
+    }
 }
 
 /// How many bytes stand before the first blank.

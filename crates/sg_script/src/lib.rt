@@ -14,9 +14,12 @@ mod settings;
 #[cfg(test)]
 mod tests;
 mod texts;
+mod turns;
 mod words;
+mod writing;
 
 pub use faults::{ReadScript, ScriptFault, ScriptKind};
 pub use reading::read_script;
 pub use scripts::Script;
 pub use sessions::SessionScript;
+pub use writing::write_script;

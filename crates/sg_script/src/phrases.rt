@@ -1,14 +1,18 @@
-ghost use Rattle.std.specs.Prelude.{◌≡◌, ℕ, IfOk};
+ghost use Rattle.std.specs.Prelude.{◌≡◌, [], ◌∷◌, ◌+◌, IfOk};
 ghost use Rattle.sg_script.specs.declared.words.Place.{Place};
 ghost use Rattle.sg_script.specs.Fits.{Fits};
+ghost use Rattle.sg_plain.specs.Rows.{keys_of};
 ghost use Rattle.sg_plain.specs.Sat.{IsSoundQuery};
 ghost use Rattle.sg_script.specs.Gives.{Gives};
-ghost use Rattle.sg_script.specs.Grammar.{Least, bare_line, delete_line, fields, filter_line, get_line, insert_line, lone_key, once, plan_line, query_of, row_line, select_line, session_line, stands, update_line};
+ghost use Rattle.sg_script.specs.Grammar.{bare_line, delete_line, fields, filter_line, get_line, insert_line, lone_key, once, plan_line, query_of, row_line, select_line, session_line, stands, update_line};
+ghost use Rattle.sg_script.specs.Plans.{Plan, above_all, numbers_of};
 
 use crate::faults::{ReadLine, ScriptKind};
 use crate::fields::first_field;
+use crate::scripts::Script;
 use crate::settings::{grid_line, window_line};
 use crate::texts::{key, nothing, priority, session_number, shape, test_of};
+use crate::turns::schedule_line;
 use crate::words::{Line, Place, Word};
 use sg_plain::{End, Query, Statement};
 use std::alloc::Global;
@@ -22,11 +26,13 @@ pub fn stands(place: Place, word: Word) -> Result<(), ReadLine>
         (Place::Front { window, .. }, Word::Window) => once(window),
         (Place::Front { .. } | Place::Opening, Word::Row | Word::Session) => Ok(()),
         (Place::Between, Word::Session | Word::Begin) => Ok(()),
-        (Place::Open, Word::Session) => Err(ReadLine::Fault(ScriptKind::NotClosed)),
+        (Place::Open, Word::Session | Word::Schedule) => {
+            Err(ReadLine::Fault(ScriptKind::NotClosed))
+        }
         (Place::Open, Word::Grid | Word::Window | Word::Row | Word::Begin) => {
             Err(ReadLine::Fault(ScriptKind::Word))
         }
-        (Place::Open, _) => Ok(()),
+        (Place::Open, _) | (_, Word::Schedule) => Ok(()),
         _ => Err(ReadLine::Fault(ScriptKind::Word)),
     }
 }
@@ -42,22 +48,42 @@ fn once(told: bool) -> Result<(), ReadLine>
     }
 }
 
-#[tactic(auto, unfolding(crate::specs::Grammar::row_line))]
-fn row_line(alloc: Global, least: u64, text: &[u8]) -> Result<Line, ReadLine>
-    ensures gives { Gives (λ l. l) result (row_line least text.now) }
-    ensures fits { (p : Place) (n : ℕ) → IfOk result (Fits p (record { key = least; session = n })) }
+/// The least key above those of the rows.
+fn least_key(script: &Script) -> u64
+    ensures { result ≡ above_all (keys_of script.now.rows) }
 {
-    let (key, rest) = key(least, text)?;
+    match script.rows().as_slice() {
+        [] => 0,
+        [.., last] => u64::from(last.0) + 1,
+    }
+}
+
+/// The least number above those of the sessions.
+fn least_session(script: &Script) -> u64
+    ensures { result ≡ above_all (numbers_of script.now.sessions) }
+{
+    match script.sessions() {
+        [] => 0,
+        [.., last] => u64::from(last.session.number()) + 1,
+    }
+}
+
+#[tactic(auto, unfolding(crate::specs::Grammar::row_line))]
+fn row_line(alloc: Global, script: &Script, text: &[u8]) -> Result<Line, ReadLine>
+    ensures gives { Gives (λ l. l) result (row_line (above_all (keys_of script.now.rows)) text.now) }
+    ensures fits { (p : Place) → IfOk result (Fits p script.now) }
+{
+    let (key, rest) = key(least_key(script), text)?;
     let shape = shape(alloc, rest)?;
     Ok(Line::Row(key, shape))
 }
 
 #[tactic(auto, unfolding(crate::specs::Grammar::session_line))]
-fn session_line(least: u64, text: &[u8]) -> Result<Line, ReadLine>
-    ensures gives { Gives (λ l. l) result (session_line least text.now) }
-    ensures fits { (p : Place) (n : ℕ) → IfOk result (Fits p (record { key = n; session = least })) }
+fn session_line(script: &Script, text: &[u8]) -> Result<Line, ReadLine>
+    ensures gives { Gives (λ l. l) result (session_line (above_all (numbers_of script.now.sessions)) text.now) }
+    ensures fits { (p : Place) → IfOk result (Fits p script.now) }
 {
-    match session_number(least, text) {
+    match session_number(least_session(script), text) {
         Ok((session, rest)) => match priority(rest) {
             Ok(priority) => Ok(Line::Session(session, priority)),
             Err(fault) => Err(fault),
@@ -78,7 +104,7 @@ fn bare_line(line: Line, text: &[u8]) -> Result<Line, ReadLine>
 #[tactic(auto, unfolding(crate::specs::Grammar::insert_line))]
 fn insert_line(alloc: Global, text: &[u8]) -> Result<Line, ReadLine>
     ensures gives { Gives (λ l. l) result (insert_line text.now) }
-    ensures fits { (p : Place) (least : Least) → IfOk result (Fits p least) }
+    ensures fits { (p : Place) (plan : Plan) → IfOk result (Fits p plan) }
 {
     let (key, rest) = key(0, text)?;
     let shape = shape(alloc, rest)?;
@@ -88,7 +114,7 @@ fn insert_line(alloc: Global, text: &[u8]) -> Result<Line, ReadLine>
 #[tactic(auto, unfolding(crate::specs::Grammar::update_line))]
 fn update_line(alloc: Global, text: &[u8]) -> Result<Line, ReadLine>
     ensures gives { Gives (λ l. l) result (update_line text.now) }
-    ensures fits { (p : Place) (least : Least) → IfOk result (Fits p least) }
+    ensures fits { (p : Place) (plan : Plan) → IfOk result (Fits p plan) }
 {
     let (key, rest) = key(0, text)?;
     let shape = shape(alloc, rest)?;
@@ -108,7 +134,7 @@ fn lone_key(text: &[u8]) -> Result<u32, ReadLine>
 #[tactic(auto, unfolding(crate::specs::Grammar::get_line))]
 fn get_line(text: &[u8]) -> Result<Line, ReadLine>
     ensures gives { Gives (λ l. l) result (get_line text.now) }
-    ensures fits { (p : Place) (least : Least) → IfOk result (Fits p least) }
+    ensures fits { (p : Place) (plan : Plan) → IfOk result (Fits p plan) }
 {
     let key = lone_key(text)?;
     Ok(Line::Statement(Statement::Get(key)))
@@ -128,7 +154,7 @@ fn query_of(alloc: Global, text: &[u8]) -> Result<Query, ReadLine>
 #[tactic(auto, unfolding(crate::specs::Grammar::select_line))]
 fn select_line(alloc: Global, text: &[u8]) -> Result<Line, ReadLine>
     ensures gives { Gives (λ l. l) result (select_line text.now) }
-    ensures fits { (p : Place) (least : Least) → IfOk result (Fits p least) }
+    ensures fits { (p : Place) (plan : Plan) → IfOk result (Fits p plan) }
 {
     let query = query_of(alloc, text)?;
     Ok(Line::Statement(Statement::Select(query)))
@@ -137,7 +163,7 @@ fn select_line(alloc: Global, text: &[u8]) -> Result<Line, ReadLine>
 #[tactic(auto, unfolding(crate::specs::Grammar::plan_line))]
 fn plan_line(alloc: Global, text: &[u8]) -> Result<Line, ReadLine>
     ensures gives { Gives (λ l. l) result (plan_line text.now) }
-    ensures fits { (p : Place) (least : Least) → IfOk result (Fits p least) }
+    ensures fits { (p : Place) (plan : Plan) → IfOk result (Fits p plan) }
 {
     let query = query_of(alloc, text)?;
     Ok(Line::Statement(Statement::Plan(query)))
@@ -146,7 +172,7 @@ fn plan_line(alloc: Global, text: &[u8]) -> Result<Line, ReadLine>
 #[tactic(auto, unfolding(crate::specs::Grammar::delete_line))]
 fn delete_line(alloc: Global, text: &[u8]) -> Result<Line, ReadLine>
     ensures gives { Gives (λ l. l) result (delete_line text.now) }
-    ensures fits { (p : Place) (least : Least) → IfOk result (Fits p least) }
+    ensures fits { (p : Place) (plan : Plan) → IfOk result (Fits p plan) }
 {
     let (field, rest) = first_field(text);
     if field == b"where".as_slice() {
@@ -160,30 +186,30 @@ fn delete_line(alloc: Global, text: &[u8]) -> Result<Line, ReadLine>
 #[tactic(auto, unfolding(crate::specs::Grammar::filter_line))]
 fn filter_line(alloc: Global, text: &[u8]) -> Result<Line, ReadLine>
     ensures gives { Gives (λ l. l) result (filter_line text.now) }
-    ensures fits { (p : Place) (least : Least) → IfOk result (Fits p least) }
+    ensures fits { (p : Place) (plan : Plan) → IfOk result (Fits p plan) }
 {
     let shape = shape(alloc, text)?;
     Ok(Line::Statement(Statement::Filter(shape)))
 }
 
-/// The rest of a line with this first word, which may stand there.
+/// The rest of a line with this first word, which may stand there, after the lines of the script so far.
 pub fn fields(
     alloc: Global,
+    script: &Script,
     place: Place,
-    least_key: u64,
-    least_session: u64,
     word: Word,
     text: &[u8],
 ) -> Result<Line, ReadLine>
     requires { stands place word ≡ Ok tt }
-    ensures gives { Gives (λ l. l) result (fields (record { key = least_key; session = least_session }) word text.now) }
-    ensures fits { IfOk result (Fits place (record { key = least_key; session = least_session })) }
+    ensures gives { Gives (λ l. l) result (fields script.now word text.now) }
+    ensures fits { IfOk result (Fits place script.now) }
 {
     match word {
         Word::Grid => grid_line(text),
         Word::Window => window_line(text),
-        Word::Row => row_line(alloc, least_key, text),
-        Word::Session => session_line(least_session, text),
+        Word::Row => row_line(alloc, script, text),
+        Word::Session => session_line(script, text),
+        Word::Schedule => schedule_line(alloc, script, text),
         Word::Begin => bare_line(Line::Begin, text),
         Word::Commit => bare_line(Line::End(End::Commit), text),
         Word::Rollback => bare_line(Line::End(End::Rollback), text),

@@ -3,8 +3,9 @@ ghost use Rattle.sg_plain.specs.Keys.{IsRising};
 ghost use Rattle.sg_plain.specs.Rows.{AreRows, keys_of};
 ghost use Rattle.sg_script.specs.Fits.{Fits};
 ghost use Rattle.sg_script.specs.Gives.{Gives};
-ghost use Rattle.sg_script.specs.Grammar.{Draft, added, closed_at, empty_draft, least_of, line_in, place_in, place_of, step, with_line};
-ghost use Rattle.sg_script.specs.Plans.{above_all, numbers_of, with_transaction};
+ghost use Rattle.sg_script.specs.Grammar.{Draft, added, closed_at, empty_draft, line_in, place_in, place_of, step, with_line};
+ghost use Rattle.sg_modes.specs.Priorities.{IsPriority};
+ghost use Rattle.sg_script.specs.Plans.{IsOrderOf, above_all, numbers_of, with_transaction};
 ghost use Rattle.sg_plain.specs.Sat.{IsSoundStatement};
 ghost use Rattle.sg_shape.specs.Sound.{IsSound};
 ghost use Rattle.sg_script.specs.Reads.{Reads};
@@ -16,7 +17,7 @@ use crate::scripts::Script;
 use crate::sessions::SessionScript;
 use crate::words::{Line, Place, word_of};
 use sg_cells::Settings;
-use sg_modes::Session;
+use sg_modes::{Schedule, Session};
 use sg_plain::{End, PlainRows, Statement, Transaction};
 use sg_shape::Shape;
 use std::alloc::{AllocError, Global};
@@ -31,6 +32,8 @@ pub struct Reader {
     script: Script,
     /// Whether a line told the window.
     windowed: bool,
+    /// Whether a line told turns.
+    scheduled: bool,
     /// The transaction that is open, whose end isn't known yet.
     pending: Option<Transaction>,
 }
@@ -41,7 +44,7 @@ impl Model for Reader {
 
     ghost Value = { Draft };
 
-    ghost view = { λ r. record { plan = r.script; windowed = r.windowed; pending = option_map (λ t. t.statements) r.pending } };
+    ghost view = { λ r. record { plan = r.script; windowed = r.windowed; scheduled = r.scheduled; pending = option_map (λ t. t.statements) r.pending } };
 
     ghost invariant = { λ r. IsSome r.pending → r.script.sessions ≢ [] };
 }
@@ -58,6 +61,7 @@ impl Reader {
         Reader {
             script: Script::new(alloc, settings, PlainRows::new(alloc)),
             windowed: false,
+            scheduled: false,
             pending: None,
         }
     }
@@ -67,6 +71,8 @@ impl Reader {
     {
         if self.pending.is_some() {
             Place::Open
+        } else if self.scheduled {
+            Place::Turns
         } else if !self.script.sessions().is_empty() {
             Place::Between
         } else if !self.script.rows().as_slice().is_empty() {
@@ -83,7 +89,7 @@ impl Reader {
     #[tactic(auto, unfolding(crate::specs::Grammar::line_in))]
     fn line(&self, alloc: Global, text: &[u8]) -> Result<Line, ReadLine>
         ensures gives { Gives (λ l. l) result (line_in self.now text.now) }
-        ensures fits { IfOk result (Fits (place_of self.now) (least_of self.now.plan)) }
+        ensures fits { IfOk result (Fits (place_of self.now) self.now.plan) }
     {
         let (first, rest) = first_field(text);
         let Some(word) = word_of(first) else {
@@ -91,14 +97,12 @@ impl Reader {
         };
         let place = self.place();
         stands(place, word)?;
-        let key = least_key(&self.script);
-        let session = least_session(&self.script);
-        fields(alloc, place, key, session, word, rest)
+        fields(alloc, &self.script, place, word, rest)
     }
 
     /// Adds what a line says.
     fn add(&mut self, alloc: Global, line: Line) -> Result<(), AllocError>
-        requires { Fits (place_of self.old) (least_of self.old.plan) line }
+        requires { Fits (place_of self.old) self.old.plan line }
         ensures { OnOk result (self.new ≡ with_line self.old line) }
     {
         match line {
@@ -124,6 +128,10 @@ impl Reader {
                 Some(transaction) => add_transaction(&mut self.script, transaction, end),
                 None => Ok(()),
             },
+            Line::Schedule(turns) => {
+                self.scheduled = true;
+                add_turns(&mut self.script, &turns)
+            }
         }
     }
 
@@ -156,26 +164,6 @@ impl Reader {
     }
 }
 
-/// The least key above those of the rows.
-fn least_key(script: &Script) -> u64
-    ensures { result ≡ above_all (keys_of script.now.rows) }
-{
-    match script.rows().as_slice() {
-        [] => 0,
-        [.., last] => u64::from(last.0) + 1,
-    }
-}
-
-/// The least number above those of the sessions.
-fn least_session(script: &Script) -> u64
-    ensures { result ≡ above_all (numbers_of script.now.sessions) }
-{
-    match script.sessions() {
-        [] => 0,
-        [.., last] => u64::from(last.session.number()) + 1,
-    }
-}
-
 fn add_row(script: &mut Script, key: u32, shape: Shape) -> Result<(), AllocError>
     requires above { above_all (keys_of script.old.rows) ≤ key }
     requires sound { IsSound shape }
@@ -191,13 +179,22 @@ fn add_session(
     session: Session,
     priority: i8,
 ) -> Result<(), AllocError>
-    requires { above_all (numbers_of script.old.sessions) ≤ session }
+    requires above { above_all (numbers_of script.old.sessions) ≤ session }
+    requires range { IsPriority priority }
     ensures ok { OnOk result (script.new ≡ record script.old {
       sessions = script.old.sessions ++ record { session = session; priority = priority; transactions = [] } ∷ [];
     }) }
     ensures kept { script.old.sessions ≢ [] → script.new.sessions ≢ [] }
 {
     script.session(alloc, session, priority)
+}
+
+fn add_turns(script: &mut Script, turns: &Schedule) -> Result<(), AllocError>
+    requires { IsOrderOf (numbers_of script.old.sessions) turns.now }
+    ensures ok { OnOk result (script.new ≡ record script.old { order = script.old.order ++ turns.now }) }
+    ensures kept { script.old.sessions ≢ [] → script.new.sessions ≢ [] }
+{
+    script.turns(turns)
 }
 
 fn add_statement(pending: &mut Option<Transaction>, statement: Statement) -> Result<(), AllocError>

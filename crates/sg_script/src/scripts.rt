@@ -1,13 +1,15 @@
-ghost use Rattle.std.specs.Prelude.{◌≡◌, ◌≢◌, ◌≤◌, [], ◌∷◌, ◌++◌, Some, option_map, OnOk, OnErr, IfErr};
+ghost use Rattle.std.specs.Prelude.{◌≡◌, ◌≢◌, ◌≤◌, ℕ, List, [], ◌∷◌, ◌++◌, All, Some, option_map, IfSome, OnOk, OnErr, IfErr};
 ghost use Rattle.std.specs.Option.{option_copied};
 ghost use Rattle.sg_shape.specs.Sound.{IsSound};
 ghost use Rattle.sg_plain.specs.Keys.{IsRising};
+ghost use Rattle.sg_modes.specs.Priorities.{IsPriority};
 ghost use Rattle.sg_plain.specs.Rows.{keys_of};
-ghost use Rattle.sg_script.specs.Plans.{IsOrderOf, IsWindow, above_all, numbers_of, session_at, transaction_at, with_transaction};
+ghost use Rattle.sg_plain.specs.Sat.{AreSound};
+ghost use Rattle.sg_script.specs.Plans.{IsOrderOf, IsSoundSession, IsWindow, above_all, numbers_of, session_at, transaction_at, with_transaction};
 
 use crate::sessions::SessionScript;
 use sg_cells::{Grid, Settings};
-use sg_modes::{Schedule, Session};
+use sg_modes::{Schedule, Session, Sessions};
 use sg_plain::{PlainRows, Transaction};
 use sg_shape::{Back, Items, Shape};
 use std::alloc::{AllocError, Global};
@@ -69,28 +71,42 @@ impl Script {
     pub fn sessions(&self) -> &[SessionScript]
         ensures all { result.now ≡ self.now.sessions }
         ensures rising { IsRising (numbers_of self.now.sessions) }
+        ensures sound { All IsSoundSession self.now.sessions }
     {
         self.sessions.as_slice()
     }
 
-    /// The sessions whose turns come one after another. It is empty where no order was set.
+    /// The sessions as a set.
+    pub(crate) fn numbers(&self) -> Sessions
+        ensures { result ≡ numbers_of self.now.sessions }
+    {
+        set_of(self.sessions())
+    }
+
+    /// The sessions whose turns come one after another, each of the script. It is empty where no turns were told.
     pub fn order(&self) -> &Schedule
-        ensures { result.now ≡ self.now.order }
+        ensures all { result.now ≡ self.now.order }
+        ensures turns { IsOrderOf (numbers_of self.now.sessions) self.now.order }
     {
         &self.order
     }
 
-    /// The priority of a session: `None` exactly where it isn't in the script.
+    /// The priority of a session, from -10 to 10: `None` exactly where it isn't in the script.
     pub fn priority_of(&self, session: Session) -> Option<i8>
-        ensures { result ≡ option_map (λ s. s.priority) (session_at self.now.sessions session) }
+        ensures priority { result ≡ option_map (λ s. s.priority) (session_at self.now.sessions session) }
+        ensures range { IfSome result IsPriority }
     {
-        find(self.sessions(), session).map(|found| found.priority)
+        match find(self.sessions(), session) {
+            Some(found) => Some(found.priority),
+            None => None,
+        }
     }
 
     /// A session's transaction at a place, counted from 0: `None` exactly where the session isn't in the
-    /// script, or past its last transaction.
+    /// script, or past its last transaction. Its statements are sound.
     pub fn transaction_of(&self, session: Session, place: usize) -> Option<&Transaction>
-        ensures { option_copied result ≡ transaction_at self.now.sessions session place }
+        ensures found { option_copied result ≡ transaction_at self.now.sessions session place }
+        ensures sound { IfSome result (λ t. AreSound t.now.statements) }
     {
         match find(self.sessions(), session) {
             Some(found) => found.transactions.at(place),
@@ -104,6 +120,16 @@ impl Script {
         ensures { self.new ≡ record self.old { order = order } }
     {
         self.order = order;
+    }
+
+    /// Puts these turns, which have to be of sessions of the script, after those of the order. Without memory for
+    /// them the order may have got the first ones, and all else is as it was.
+    pub(crate) fn turns(&mut self, turns: &Schedule) -> Result<(), AllocError>
+        requires { IsOrderOf (numbers_of self.old.sessions) turns.now }
+        ensures ok { OnOk result (self.new ≡ record self.old { order = self.old.order ++ turns.now }) }
+        ensures rest { self.new ≡ record self.old { order = self.new.order } }
+    {
+        append(&mut self.order, turns)
     }
 
     /// Gives the table an index over this grid.
@@ -133,15 +159,16 @@ impl Script {
         self.rows.push(key, shape)
     }
 
-    /// Adds a session without transactions, whose number has to be above all others. Without memory for it
-    /// the script stays as it was.
+    /// Adds a session without transactions, whose number has to be above all others, with a priority from -10
+    /// to 10. Without memory for it the script stays as it was.
     pub fn session(
         &mut self,
         alloc: Global,
         session: Session,
         priority: i8,
     ) -> Result<(), AllocError>
-        requires { above_all (numbers_of self.old.sessions) ≤ session }
+        requires above { above_all (numbers_of self.old.sessions) ≤ session }
+        requires range { IsPriority priority }
         ensures ok { OnOk result (self.new ≡ record self.old {
           sessions = self.old.sessions ++ record { session = session; priority = priority; transactions = [] } ∷ [];
         }) }
@@ -163,6 +190,7 @@ impl Script {
         ensures err { OnErr result (self.new ≡ self.old) }
         ensures back { IfErr result (λ back. back.item ≡ transaction) }
     {
+        let _sound = transaction.as_slice();
         let last = self.sessions.as_slice().len() - 1;
         self.sessions[last].transactions.push(transaction)
     }
@@ -178,4 +206,29 @@ fn find(sessions: &[SessionScript], session: Session) -> Option<&SessionScript>
         }
     }
     None
+}
+
+/// The numbers of the sessions, which rise.
+fn set_of(sessions: &[SessionScript]) -> Sessions
+    requires { IsRising (numbers_of sessions.now) }
+    ensures { result ≡ numbers_of sessions.now }
+{
+    let mut set = Sessions::none();
+    for told in sessions {
+        set = set.with(told.session);
+    }
+    set
+}
+
+/// Puts the turns last, or, where memory is wanting, the first ones of them.
+fn append(order: &mut Schedule, turns: &Schedule) -> Result<(), AllocError>
+    ensures all { OnOk result (order.new ≡ order.old ++ turns.now) }
+    ensures each { (numbers : List ℕ) → IsOrderOf numbers order.old → IsOrderOf numbers turns.now → IsOrderOf numbers order.new }
+{
+    for place in 0..turns.len() {
+        if let Some(session) = turns.at(place) {
+            order.push(session)?;
+        }
+    }
+    Ok(())
 }

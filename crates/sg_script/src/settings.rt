@@ -2,8 +2,8 @@ ghost use Rattle.std.specs.Prelude.{◌≡◌, IfOk};
 ghost use Rattle.sg_script.specs.declared.words.Place.{Place};
 ghost use Rattle.sg_script.specs.Fits.{Fits};
 ghost use Rattle.sg_script.specs.Gives.{Gives};
-ghost use Rattle.sg_script.specs.Grammar.{Least, cells, corners_in, densities, density_from, density_in, density_named, four_densities, grid_line, grid_made, whole, whole_from, window_from, window_in, window_line};
-ghost use Rattle.sg_script.specs.Plans.{IsWindow};
+ghost use Rattle.sg_script.specs.Grammar.{cells, corners_in, densities, density_from, density_in, density_named, four_densities, grid_line, grid_made, whole, whole_from, window_from, window_in, window_line};
+ghost use Rattle.sg_script.specs.Plans.{IsWindow, Plan};
 
 use crate::faults::{ReadLine, ScriptKind};
 use crate::fields::first_field;
@@ -128,7 +128,7 @@ fn cells(text: &[u8]) -> Result<(i64, &[u8]), ReadLine>
 
 fn grid_made(corners: Corners, levels: [Density; 4], cells: i64) -> Result<Line, ReadLine>
     ensures gives { Gives (λ l. l) result (grid_made corners levels cells) }
-    ensures fits { (p : Place) (least : Least) → IfOk result (Fits p least) }
+    ensures fits { (p : Place) (plan : Plan) → IfOk result (Fits p plan) }
 {
     let made = Grid::new(
         corners.xmin,
@@ -148,7 +148,7 @@ fn grid_made(corners: Corners, levels: [Density; 4], cells: i64) -> Result<Line,
 #[tactic(auto, unfolding(crate::specs::Grammar::grid_line))]
 pub fn grid_line(text: &[u8]) -> Result<Line, ReadLine>
     ensures gives { Gives (λ l. l) result (grid_line text.now) }
-    ensures fits { (p : Place) (least : Least) → IfOk result (Fits p least) }
+    ensures fits { (p : Place) (plan : Plan) → IfOk result (Fits p plan) }
 {
     let (corners, rest) = corners_in(text)?;
     let (levels, rest) = densities(rest)?;
@@ -181,7 +181,7 @@ fn window_from(number: Option<i64>) -> Result<u32, ReadLine>
 #[tactic(auto, unfolding(crate::specs::Grammar::window_line))]
 pub fn window_line(text: &[u8]) -> Result<Line, ReadLine>
     ensures gives { Gives (λ l. l) result (window_line text.now) }
-    ensures fits { (p : Place) (least : Least) → IfOk result (Fits p least) }
+    ensures fits { (p : Place) (plan : Plan) → IfOk result (Fits p plan) }
 {
     let (field, rest) = first_field(text);
     let window = window_from(number(field))?;

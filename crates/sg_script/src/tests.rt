@@ -1,9 +1,9 @@
-use crate::{ReadScript, Script, ScriptFault, ScriptKind, read_script};
+use crate::{ReadScript, Script, ScriptFault, ScriptKind, read_script, write_script};
 use sg_cells::{GridFault, Settings};
 use sg_modes::{Schedule, Session};
 use sg_plain::{End, PlainRows, Statement, Test, Transaction};
 use sg_shape::Pred;
-use std::alloc::Global;
+use std::alloc::{AllocError, Global};
 use std::process::Abort;
 use std::test::Fail;
 
@@ -264,4 +264,160 @@ fn tells_settings_out_of_place(rt: HostRuntime) {
         ScriptKind::Word,
     );
     is_faulty(&rt, alloc, b"plan within POINT EMPTY", 1, ScriptKind::Word);
+}
+
+/// The numbers of the sessions whose turns come one after another.
+fn turns_of(alloc: Global, script: &Script) -> Result<Vec<u8>, AllocError> {
+    let order = script.order();
+    let mut numbers = Vec::new(alloc);
+    for place in 0..order.len() {
+        if let Some(session) = order.at(place) {
+            numbers.push(session.number())?;
+        }
+    }
+    Ok(numbers)
+}
+
+#[test]
+fn reads_turns(rt: HostRuntime) -> Result<(), Fail> {
+    let text =
+        b"session 2\nsession 7 priority 1\nschedule 7 2 2\n\n# none\nschedule\nschedule\t2 7 \r\n";
+    let Ok(script) = read_script(rt.alloc(), text) else {
+        return Err(Fail::from("refused"));
+    };
+    let turns = turns_of(rt.alloc(), &script)?;
+    assert!(rt; turns.as_slice() == b"\x07\x02\x02\x02\x07".as_slice());
+    Ok(())
+}
+
+#[test]
+fn reads_bare_schedules(rt: HostRuntime) -> Result<(), Fail> {
+    let Ok(script) = read_script(rt.alloc(), b"row 1 POINT EMPTY\nschedule\nschedule\n") else {
+        return Err(Fail::from("refused"));
+    };
+    assert_eq!(rt; script.order().len(), 0);
+    assert_eq!(rt; script.rows().len(), 1);
+    Ok(())
+}
+
+#[test]
+fn tells_faults_of_turns(rt: HostRuntime) {
+    let alloc = rt.alloc();
+    is_faulty(
+        &rt,
+        alloc,
+        b"session 1\nschedule 1 2",
+        2,
+        ScriptKind::Session,
+    );
+    is_faulty(&rt, alloc, b"session 1\nschedule 0", 2, ScriptKind::Session);
+    is_faulty(
+        &rt,
+        alloc,
+        b"session 1\nschedule 65",
+        2,
+        ScriptKind::Session,
+    );
+    is_faulty(
+        &rt,
+        alloc,
+        b"session 1\nschedule -1",
+        2,
+        ScriptKind::Session,
+    );
+    is_faulty(
+        &rt,
+        alloc,
+        b"session 1\nschedule -0",
+        2,
+        ScriptKind::Session,
+    );
+    is_faulty(
+        &rt,
+        alloc,
+        b"session 1\nschedule 1 x 2",
+        2,
+        ScriptKind::Number,
+    );
+    is_faulty(
+        &rt,
+        alloc,
+        b"session 1\nschedule 2 x",
+        2,
+        ScriptKind::Session,
+    );
+    is_faulty(&rt, alloc, b"schedule 1", 1, ScriptKind::Session);
+}
+
+#[test]
+fn tells_schedules_out_of_place(rt: HostRuntime) {
+    let alloc = rt.alloc();
+    is_faulty(
+        &rt,
+        alloc,
+        b"session 1\nbegin\nschedule 1",
+        3,
+        ScriptKind::NotClosed,
+    );
+    is_faulty(&rt, alloc, b"schedule\nsession 1", 2, ScriptKind::Word);
+    is_faulty(
+        &rt,
+        alloc,
+        b"session 1\nschedule\nbegin",
+        3,
+        ScriptKind::Word,
+    );
+    is_faulty(
+        &rt,
+        alloc,
+        b"session 1\nschedule 1\ncommit",
+        3,
+        ScriptKind::Word,
+    );
+    is_faulty(
+        &rt,
+        alloc,
+        b"schedule\nrow 1 POINT EMPTY",
+        2,
+        ScriptKind::Word,
+    );
+    is_faulty(&rt, alloc, b"schedule\ngrid 0 0 8 8", 2, ScriptKind::Word);
+}
+
+/// A text is a script, and is written so.
+fn is_written(
+    rt: &impl Abort,
+    alloc: Global,
+    text: &[u8],
+    written: &[u8],
+) -> Result<(), AllocError> {
+    if text.len() <= 67_108_864 {
+        let script = read_script(alloc, text).ok();
+        assert!(rt; script.is_some());
+        if let Some(script) = script {
+            let out = write_script(alloc, &script)?;
+            assert!(rt; out.as_slice() == written);
+        }
+    }
+    Ok(())
+}
+
+#[test]
+fn writes_scripts(rt: HostRuntime) -> Result<(), Fail> {
+    let text =
+        b"grid -8 0 8 16 low medium high low 9\nwindow 12\nrow 4 POINT (1 -2)\nrow 70 LINESTRING EMPTY\nsession 3 priority -4\nbegin\ninsert 1 POINT (1 2)\nupdate 2 POINT (0 0)\ndelete 4\nget 4\nselect distance <= 5 POINT EMPTY\nplan distance < 5 POINT EMPTY\nfilter POINT EMPTY\ndelete where touches POINT (1 2)\nrollback\nbegin\ncommit\nsession 5\nsession 64 priority 10\nschedule 3 64 3\n";
+    is_written(&rt, rt.alloc(), text, text)?;
+    Ok(())
+}
+
+#[test]
+fn writes_what_was_left_out(rt: HostRuntime) -> Result<(), Fail> {
+    is_written(&rt, rt.alloc(), b"", b"window 64\n")?;
+    is_written(
+        &rt,
+        rt.alloc(),
+        b"# all\n\ngrid 0 0 8 8\nsession 1  priority 0\nschedule\nschedule 1\nschedule 1",
+        b"grid 0 0 8 8 medium medium medium medium 16\nwindow 64\nsession 1\nschedule 1 1\n",
+    )?;
+    Ok(())
 }

@@ -1,5 +1,6 @@
 ghost use Rattle.std.specs.Prelude.{◌≡◌, ◌≤◌, IfOk};
 ghost use Rattle.sg_shape.specs.Sound.{IsSound};
+ghost use Rattle.sg_modes.specs.Priorities.{IsPriority};
 ghost use Rattle.sg_plain.specs.Sat.{IsSoundTest};
 ghost use Rattle.sg_script.specs.Gives.{Gives};
 ghost use Rattle.sg_script.specs.Grammar.{bound_from, bound_in, comparison, distance, expect, key, key_from, key_in, natural, nothing, priority, priority_from, relation_of, session_from, session_in, session_number, shape, test_of};
@@ -96,7 +97,8 @@ fn session_in(least: u64, number: Option<u64>) -> Result<Session, ReadLine>
     }
 }
 
-fn session_from(least: u64, number: Option<i64>) -> Result<Session, ReadLine>
+/// The session of that number, which has to be at least this.
+pub fn session_from(least: u64, number: Option<i64>) -> Result<Session, ReadLine>
     ensures gives { Gives (λ s. s) result (session_from least number) }
     ensures above { IfOk result (λ s. least ≤ s) }
 {
@@ -120,7 +122,8 @@ pub fn session_number(least: u64, text: &[u8]) -> Result<(Session, &[u8]), ReadL
 }
 
 fn priority_from(number: Option<i64>) -> Result<i8, ReadLine>
-    ensures { Gives (λ p. p) result (priority_from number) }
+    ensures gives { Gives (λ p. p) result (priority_from number) }
+    ensures range { IfOk result IsPriority }
 {
     match number {
         Some(n) if -10 <= n && n <= 10 => Ok(n as i8),
@@ -131,7 +134,8 @@ fn priority_from(number: Option<i64>) -> Result<i8, ReadLine>
 /// What ends a session's line: nothing, or its priority.
 #[tactic(auto, unfolding(crate::specs::Grammar::priority))]
 pub fn priority(text: &[u8]) -> Result<i8, ReadLine>
-    ensures { Gives (λ p. p) result (priority text.now) }
+    ensures gives { Gives (λ p. p) result (priority text.now) }
+    ensures range { IfOk result IsPriority }
 {
     let (field, _) = first_field(text);
     if field == b"".as_slice() {

@@ -2,7 +2,7 @@ ghost use Rattle.std.specs.Prelude.{◌≡◌};
 ghost use Rattle.sg_script.specs.Words.{frame_word, statement_word, word_of};
 
 use sg_cells::Grid;
-use sg_modes::Session;
+use sg_modes::{Schedule, Session};
 use sg_plain::{End, Statement};
 use sg_shape::Shape;
 
@@ -13,6 +13,7 @@ pub enum Word {
     Window,
     Row,
     Session,
+    Schedule,
     Begin,
     Commit,
     Rollback,
@@ -42,6 +43,8 @@ pub enum Line {
     Statement(Statement),
     /// The open transaction ends.
     End(End),
+    /// These sessions have turns, after the turns told before.
+    Schedule(Schedule),
 }
 
 /// Where a line stands.
@@ -55,6 +58,8 @@ pub enum Place {
     Between,
     /// In a transaction.
     Open,
+    /// After a line that told turns.
+    Turns,
 }
 
 /// The word that a field is, of those that lines begin with.
@@ -82,6 +87,9 @@ fn frame_word(field: &[u8]) -> Option<Word>
     }
     if field == b"session".as_slice() {
         return Some(Word::Session);
+    }
+    if field == b"schedule".as_slice() {
+        return Some(Word::Schedule);
     }
     if field == b"begin".as_slice() {
         return Some(Word::Begin);

@@ -6,5 +6,6 @@ pub invariant_of-self : goal.invariant_of-self
 invariant_of-self c = record {
   window = c.self.invariant.window;
   rising = c.self.invariant.rising;
+  sound = c.self.invariant.sound;
   turns = subst (λ (p : Plan). IsOrderOf (numbers_of p.sessions) c.args.order) (sym c.self.view_is) c.requires;
 }

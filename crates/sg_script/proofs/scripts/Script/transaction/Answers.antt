@@ -1,16 +1,22 @@
-use Rattle.std.proofs.Common.{List, ℕ, refl, sym, subst, ap, length}
+use Rattle.std.proofs.Common.{List, ℕ, ◌≢◌, [], length, refl, sym, subst, ap}
 use Rattle.std.proofs.lemmas.Result.{on_ok_weaker}
 use Rattle.sg_plain.specs.Keys.{IsRising}
-use Rattle.sg_script.specs.Plans.{IsOrderOf}
-use Rattle.sg_script.proofs.Lasts.{numbers_of-set, added_last}
+use Rattle.sg_script.specs.Plans.{IsOrderOf, Plan}
+use Rattle.sg_script.proofs.Lasts.{numbers_of-set, added_last, last_within}
+use Rattle.sg_script.proofs.SoundSessions.{sound_pushed}
 use Rattle.sg_script.proofs.scripts.Script.transaction.Goals as goal
 
 pub invariant_of-self : goal.invariant_of-self
 invariant_of-self c =
     let same = sym (numbers_of-set c.self.inside.sessions.items _ c.index_mut.result.now _ refl c.index_mut.ensures.value) in
+    let some : c.self.inside.sessions.items ≢ [] = subst (λ (p : Plan). p.sessions ≢ []) (sym c.self.view_is) c.requires in
     record {
       window = c.self.invariant.window;
       rising = subst IsRising same c.self.invariant.rising;
+      sound =
+          sound_pushed c.self.inside.sessions.items _ c.index_mut.result.now c.push.new.self c.args.transaction c.push.result
+          c.self.invariant.sound (last_within c.self.inside.sessions.items _ some (ap length c.as_slice.ensures.value)) c.index_mut.ensures.value c.as_slice-sound.ensures.sound
+          c.push.ensures.ok c.push.ensures.err;
       turns = subst (λ (ns : List ℕ). IsOrderOf ns c.self.inside.order) same c.self.invariant.turns;
     }
 

@@ -2,7 +2,7 @@ use Rattle.std.proofs.Common.{◌≡◌, suc, ◌-◌, ◌+◌, length, ap, sym,
 use Rattle.sg_script.specs.declared.sessions.SessionScript.{SessionScript}
 use Rattle.sg_script.specs.Plans.{above_all, numbers_of}
 use Rattle.sg_script.proofs.Lasts.{above_all-last}
-use Rattle.sg_script.proofs.readers.least_session.Goals as goal
+use Rattle.sg_script.proofs.phrases.least_session.Goals as goal
 
 pub returns-in-len1-up : goal.returns-in-len1-up
 returns-in-len1-up c =

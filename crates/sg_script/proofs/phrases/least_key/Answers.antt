@@ -3,7 +3,7 @@ use Rattle.sg_shape.specs.declared.shapes.Shape.{Shape}
 use Rattle.sg_plain.specs.Rows.{keys_of}
 use Rattle.sg_script.specs.Plans.{above_all}
 use Rattle.sg_script.proofs.Lasts.{above_all-last}
-use Rattle.sg_script.proofs.readers.least_key.Goals as goal
+use Rattle.sg_script.proofs.phrases.least_key.Goals as goal
 
 pub returns-in-len1-up : goal.returns-in-len1-up
 returns-in-len1-up c =
