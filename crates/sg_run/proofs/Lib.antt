@@ -1,0 +1,12 @@
+pub mod Pasts
+pub mod Begun
+pub mod Kept
+pub mod Goes
+pub mod Dues
+pub mod Turning
+pub mod Moves
+pub mod Noting
+pub mod Opening
+pub mod Freed
+pub mod Commits
+pub mod Opened
