@@ -1,0 +1,11 @@
+pub mod Told
+pub mod Bounds
+pub mod Leading
+pub mod Joined
+pub mod Measured
+pub mod Rounds
+pub mod Loops
+pub mod Stages
+pub mod Lasting
+pub mod Traced
+pub mod Equal
