@@ -1,6 +1,5 @@
-pub mod Examples
-pub mod Fits
-pub mod Places
-pub mod Splits
-pub mod Pieces
-pub mod Wholes
+pub mod Entries
+pub mod Fronts
+pub mod Committed
+pub mod Sounds
+pub mod Sums

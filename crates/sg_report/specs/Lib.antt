@@ -1,3 +1,2 @@
-pub mod Sound
-pub mod Texts
-pub mod Laws
+pub mod Reports
+pub mod Summaries

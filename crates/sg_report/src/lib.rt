@@ -1,12 +1,9 @@
-//! The printed text of a run: its commits with their answers, its other transactions, and the rows at its end.
+//! The printed text of a run: its commits with their answers, its other transactions with their endings, and its
+//! rows, and where they are asked for its labels and its turns.
 #![tactic(auto)]
 
-mod laws;
 mod reports;
-#[cfg(test)]
-mod tests;
-mod texts;
+mod summaries;
 
-pub use laws::text_tells;
-pub use reports::{Commit, Ending, Other, Report};
-pub use texts::report;
+pub use reports::report;
+pub use summaries::summary;

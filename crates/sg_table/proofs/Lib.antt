@@ -1,9 +1,0 @@
-pub mod Endings
-pub mod Loads
-pub mod Rewriting
-pub mod Writing
-pub mod Changes
-pub mod Removing
-pub mod Choices
-pub mod Waiting
-pub mod Satisfying

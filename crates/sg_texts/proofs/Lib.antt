@@ -1,0 +1,11 @@
+pub mod Examples
+pub mod Fits
+pub mod Places
+pub mod Lower
+pub mod Modes
+pub mod Rests
+pub mod Splits
+pub mod Pieces
+pub mod Wholes
+pub mod Deeds
+pub mod Tellings
