@@ -1,0 +1,11 @@
+pub mod Digits
+pub mod Run
+pub mod Rows
+pub mod Outcome
+pub mod Turns
+pub mod Parse
+pub mod Said
+pub mod Makes
+pub mod Told
+pub mod Spoken
+pub mod Getters
