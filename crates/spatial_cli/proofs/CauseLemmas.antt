@@ -1,5 +1,5 @@
 -- A source that tells that it holds no script.
-use Rattle.std.proofs.Common.{◌≡◌, ℕ, ◌<◌, ◌≤◌, ◌⊎◌, inl, inr, List, ◌++◌, length, Option, Some, None, Ok, Err, append-nil, sym, ap, ◌∙◌, subst, arith, refl}
+use Rattle.std.proofs.Common.{◌≡◌, ℕ, ◌<◌, ◌≤◌, Bool, true, false, ◌⊎◌, inl, inr, List, ◌++◌, length, Option, Some, None, Ok, Err, append-nil, sym, ap, ◌∙◌, subst, arith, refl}
 use Rattle.sg_io.specs.Causes.{Rose}
 use Rattle.sg_script.specs.declared.faults.ScriptFault.{ScriptFault}
 use Rattle.sg_script.specs.Grammar.{script_in}
@@ -7,8 +7,6 @@ use Rattle.sg_script.specs.Plans.{Plan}
 use Rattle.spatial_cli.specs.declared.status.Ending.{Ending}
 use Rattle.spatial_cli.specs.declared.status.Ending.TheVariants as ending
 use Rattle.spatial_cli.specs.declared.status.Status.TheVariants.{Script, OutOfMemory}
-use Rattle.spatial_cli.specs.declared.words.Form.{Form}
-use Rattle.spatial_cli.specs.declared.words.Form.TheVariants.{Replay}
 use Rattle.std.specs.Io.KnownBytes.{Appends}
 use Rattle.std.proofs.Common.{take}
 use Rattle.spatial_cli.specs.Runs.{Gave, HoldsNone, IsCut, IsReplay, IsTextOf}
@@ -30,37 +28,37 @@ gave_none (Some all) (Some rest) bytes plan h g e =
     let whole : all ≡ bytes = g.read ∙ ap (λ (r : List ℕ). bytes ++ r) g.end ∙ append-nil bytes in
     no_script bytes plan g.within e (subst (λ (bs : List ℕ). HoldsNone (Some bs)) whole h)
 
-pub refused : (end : Ending) (form : Option Form) (before after old new : Option (List ℕ)) (f g : ℕ) →
-    (end ≡ ending.Done → IsReplay before after old new) →
-    (end ≡ ending.Usage → form ≡ None) →
+pub refused : (end : Ending) (replays labels : Bool) (before after old new : Option (List ℕ)) (f g : ℕ) →
+    (end ≡ ending.Done → IsReplay labels before after old new) →
+    (end ≡ ending.Usage → replays ≡ false) →
     (end ≡ ending.ReadFault → Rose f g) →
-    (end ≡ ending.WriteFault → IsCut before after old new) →
-    (workers : ℕ) → form ≡ Some (Replay workers) → HoldsNone before → (Rose f g → ⊥) → (status_of end ≡ Script) ⊎ (status_of end ≡ OutOfMemory)
-refused ending.Done form before after old new f g done usage read cut workers is_replay holds calm =
+    (end ≡ ending.WriteFault → IsCut labels before after old new) →
+    replays ≡ true → HoldsNone before → (Rose f g → ⊥) → (status_of end ≡ Script) ⊎ (status_of end ≡ OutOfMemory)
+refused ending.Done replays labels before after old new f g done usage read cut asked holds calm =
     let d = done refl in absurd (gave_none before after d.bytes d.plan holds d.given d.script)
-refused ending.Usage form before after old new f g done usage read cut workers is_replay holds calm = absurd (some_form (sym is_replay ∙ usage refl))
+refused ending.Usage replays labels before after old new f g done usage read cut asked holds calm = absurd (true_false (sym asked ∙ usage refl))
   where
-    some_form : ◌≡◌ {A = Option Form} (Some (Replay workers)) None → ⊥
-    some_form e = cc
-refused ending.Refused form before after old new f g done usage read cut workers is_replay holds calm = inl refl
-refused ending.TooLong form before after old new f g done usage read cut workers is_replay holds calm = inl refl
-refused ending.ReadFault form before after old new f g done usage read cut workers is_replay holds calm = absurd (calm (read refl))
-refused ending.WriteFault form before after old new f g done usage read cut workers is_replay holds calm =
+    true_false : true ≡ false → ⊥
+    true_false e = cc
+refused (ending.Refused line) replays labels before after old new f g done usage read cut asked holds calm = inl refl
+refused ending.TooLong replays labels before after old new f g done usage read cut asked holds calm = inl refl
+refused ending.ReadFault replays labels before after old new f g done usage read cut asked holds calm = absurd (calm (read refl))
+refused ending.WriteFault replays labels before after old new f g done usage read cut asked holds calm =
     let d = cut refl in absurd (gave_none before after d.bytes d.plan holds d.given d.script)
-refused ending.OutOfMemory form before after old new f g done usage read cut workers is_replay holds calm = inr refl
+refused ending.OutOfMemory replays labels before after old new f g done usage read cut asked holds calm = inr refl
 
 -- a front of the text was printed
-pub cut_of : (before after old new : Option (List ℕ)) (bytes text : List ℕ) (sent : ℕ) → Gave before after bytes → IsTextOf bytes text →
-    sent < length text → Appends old new (take sent text) → IsCut before after old new
-cut_of before after old new bytes text sent given run short printed = record {
+pub cut_of : (labels : Bool) (before after old new : Option (List ℕ)) (bytes text : List ℕ) (sent : ℕ) → Gave before after bytes → IsTextOf labels bytes text →
+    sent < length text → Appends old new (take sent text) → IsCut labels before after old new
+cut_of labels before after old new bytes text sent given run short printed = record {
   bytes = bytes;
   plan = run.plan;
-  report = run.report;
+  told = run.text_is.told;
   sent = sent;
   given = given;
   script = run.script;
-  run = run.run;
-  fits = run.fits;
-  short = subst (λ (t : List ℕ). sent < length t) run.is short;
-  printed = subst (λ (t : List ℕ). Appends old new (take sent t)) run.is printed;
+  run = run.text_is.run;
+  fits = run.text_is.fits;
+  short = subst (λ (t : List ℕ). sent < length t) run.text_is.is short;
+  printed = subst (λ (t : List ℕ). Appends old new (take sent t)) run.text_is.is printed;
 }

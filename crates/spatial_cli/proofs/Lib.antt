@@ -1,5 +1,6 @@
-pub mod PlayLemmas
-pub mod OrderLemmas
-pub mod RunLemmas
 pub mod CauseLemmas
-pub mod Digits
+pub mod Scripted
+pub mod Orders
+pub mod Ended
+pub mod Finished
+pub mod Alike

@@ -1,5 +1,5 @@
 -- How the program ends: its status, its number, and what it says of it.
-use Rattle.std.specs.Prelude.{ℕ, List, [], ◌∷◌, ◌++◌, codes}
+use Rattle.std.specs.Prelude.{ℕ, List, [], ◌∷◌, ◌++◌, Option, Some, None, codes}
 use Rattle.spatial_cli.specs.declared.status.Ending.{Ending}
 use Rattle.spatial_cli.specs.declared.status.Ending.TheVariants as ending
 use Rattle.spatial_cli.specs.declared.status.Status.{Status}
@@ -17,13 +17,13 @@ number_of OutOfMemory = 5
 abbrev pub status_of : Ending → Status
 status_of ending.Done = Done
 status_of ending.Usage = Usage
-status_of ending.Refused = Script
+status_of (ending.Refused line) = Script
 status_of ending.TooLong = Script
 status_of ending.ReadFault = ReadFault
 status_of ending.WriteFault = WriteFault
 status_of ending.OutOfMemory = OutOfMemory
 
--- each message is a line
+-- each message is a line; that of a script that is refused comes with the refusal
 abbrev pub line_of : List ℕ → List ℕ
 line_of text = text ++ 10 ∷ []
 
@@ -33,8 +33,18 @@ usage = line_of (codes "usage: spatial_cli replay [--workers N] [--labels] | thr
 abbrev pub message_of : Ending → List ℕ
 message_of ending.Done = []
 message_of ending.Usage = usage
-message_of ending.Refused = line_of (codes "script refused")
+message_of (ending.Refused line) = line.items
 message_of ending.TooLong = line_of (codes "script too long")
 message_of ending.ReadFault = line_of (codes "read fault")
 message_of ending.WriteFault = line_of (codes "write fault")
 message_of ending.OutOfMemory = line_of (codes "out of memory")
+
+-- what is said of a script that is refused
+abbrev pub refusal_in : Ending → Option (List ℕ)
+refusal_in (ending.Refused line) = Some line.items
+refusal_in ending.Done = None
+refusal_in ending.Usage = None
+refusal_in ending.TooLong = None
+refusal_in ending.ReadFault = None
+refusal_in ending.WriteFault = None
+refusal_in ending.OutOfMemory = None

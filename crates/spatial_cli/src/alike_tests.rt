@@ -1,4 +1,4 @@
-use crate::program::replay_main;
+use crate::replay::replay_main;
 use crate::status::Status;
 use crate::tests::{replay, sink};
 use sg_io::{MemorySink, MemorySource};
@@ -114,6 +114,6 @@ fn empty_shapes_and_sessions(rt: HostRuntime) -> Result<(), Fail> {
     alike(
         &rt,
         rt.alloc(),
-        b"row 4 POINT (4 4)\nsession 1\nbegin\ninsert 1 POINT (5 5)\ncommit\nsession 2\nbegin\nselect distance <= 2 POINT (4 4)\nrollback\nbegin\ndelete where distance <= 1 POINT (4 4)\nselect within POLYGON ((0 0, 9 0, 9 9, 0 9, 0 0))\ncommit\n",
+        b"row 4 POINT (4 4)\nsession 1\nbegin\ninsert 1 POINT (5 5)\ncommit\nsession 2\nbegin\nselect distance <= 2 POINT (4 4)\nrollback\nbegin\ndelete where distance <= 1 POINT (4 4)\nselect within POLYGON ((0 0, 9 0, 9 9, 0 9, 0 0))\ncommit\nschedule 1 1 1 1 1 1 1 1\n",
     )
 }

@@ -1,13 +1,19 @@
 //! What holds of all printed texts.
 
-ghost use Rattle.spatial_cli.specs.Laws.{TextTellsRun};
+ghost use Rattle.spatial_cli.specs.Laws.{TextTellsRun, ScriptsHaveOneText};
 
-use sg_report::text_tells;
+use sg_texts::told_tells;
 
 /// Two runs that print one text have the same commits with the same answers in the same order, the same other
-/// transactions, and the same rows.
+/// transactions with their endings, the same rows, and the same labels where these are printed.
 pub fn text_tells_run()
     ensures { TextTellsRun }
 {
-    text_tells();
+    told_tells();
 }
+
+/// Where no transaction ends for want of memory, all runs of a script print one text, with however many workers. The
+/// call does nothing.
+pub fn one_text()
+    ensures { ScriptsHaveOneText }
+{}

@@ -1,14 +1,26 @@
-//! The program: a script of transactions on a table of shapes, played and printed.
+//! The program: a script of transactions on a table of shapes, run by its sessions in turns, and printed; or a script
+//! that is made from a number.
 #![tactic(auto)]
 
 #[cfg(test)]
 mod alike_tests;
 #[cfg(test)]
+mod crowd_tests;
+#[cfg(test)]
+mod example_tests;
+#[cfg(test)]
+mod fault_tests;
+mod faults;
+#[cfg(test)]
 mod index_tests;
+#[cfg(test)]
+mod label_tests;
 mod laws;
-mod numbers;
-mod player;
+mod making;
+#[cfg(test)]
+mod making_tests;
 mod program;
+mod replay;
 #[cfg(test)]
 mod shape_tests;
 #[cfg(test)]
@@ -16,12 +28,16 @@ mod statement_tests;
 mod status;
 #[cfg(test)]
 mod tests;
-mod words;
+#[cfg(test)]
+mod turns_tests;
 #[cfg(test)]
 mod workers_tests;
 
-pub use laws::text_tells_run;
-pub use program::{replay_main, spatial_main};
+pub use laws::{one_text, text_tells_run};
+pub use making::make_main;
+pub use program::spatial_main;
+pub use replay::replay_main;
+pub use sg_command::Words;
 use sg_io::{StdSink, StdSource};
 use sg_refine::OpenGate;
 pub use status::Status;
@@ -29,7 +45,6 @@ use std::alloc::AllocError;
 use std::env;
 use std::io::ErrorKind;
 use std::process::ExitCode;
-pub use words::Words;
 
 fn main(rt: HostRuntime) -> ExitCode {
     let Ok(words) = words_of(&rt) else {

@@ -19,12 +19,12 @@ pub enum Status {
 }
 
 /// How the program ends, and why.
-#[derive(Clone, Copy, Debug, PartialEq, Eq)]
+#[derive(Debug, Drop)]
 pub enum Ending {
     Done,
     Usage,
-    /// The bytes are no script.
-    Refused,
+    /// The bytes are no script; this line says where and why.
+    Refused(Vec<u8>),
     /// There are more bytes than a script may have.
     TooLong,
     ReadFault,
@@ -49,13 +49,13 @@ impl Status {
 }
 
 impl Ending {
-    pub fn status(self) -> Status
-        ensures { result ≡ status_of self }
+    pub fn status(&self) -> Status
+        ensures { result ≡ status_of self.now }
     {
         match self {
             Ending::Done => Status::Done,
             Ending::Usage => Status::Usage,
-            Ending::Refused | Ending::TooLong => Status::Script,
+            Ending::Refused(_) | Ending::TooLong => Status::Script,
             Ending::ReadFault => Status::ReadFault,
             Ending::WriteFault => Status::WriteFault,
             Ending::OutOfMemory => Status::OutOfMemory,
@@ -63,15 +63,15 @@ impl Ending {
     }
 
     /// What the program says of its end. Of a good one it says nothing.
-    pub fn message(self) -> &'static [u8]
-        ensures { result.now ≡ message_of self }
+    pub fn message(&self) -> &[u8]
+        ensures { result.now ≡ message_of self.now }
     {
         match self {
             Ending::Done => b"",
             Ending::Usage => {
                 b"usage: spatial_cli replay [--workers N] [--labels] | threads [--workers N] [--labels] [--trace] | make SEED ROWS SESSIONS\n"
             }
-            Ending::Refused => b"script refused\n",
+            Ending::Refused(line) => line.as_slice(),
             Ending::TooLong => b"script too long\n",
             Ending::ReadFault => b"read fault\n",
             Ending::WriteFault => b"write fault\n",

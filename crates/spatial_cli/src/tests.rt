@@ -1,6 +1,7 @@
-use crate::program::{replay_main, spatial_main};
+use crate::program::spatial_main;
+use crate::replay::replay_main;
 use crate::status::Status;
-use crate::words::Words;
+use sg_command::Words;
 use sg_io::{MemorySink, MemorySource};
 use sg_refine::OpenGate;
 use std::alloc::Global;
@@ -22,6 +23,10 @@ const SESSIONS: &[u8] =
     b"# Three sessions, ten transactions, every statement.\nrow 1 POINT (0 0)\nrow 2 POINT (5 5)\nrow 3 POINT EMPTY\n\nsession 1\nbegin\ninsert 4 POINT (5 5)\nselect intersects POINT (5 5)\ncommit\nbegin\nget 3\nfilter POINT (0 0)\nrollback\nbegin\nupdate 1 POINT (7 7)\nget 1\ncommit\n\nsession 2 priority -1\nbegin\ndelete where intersects POINT (5 5)\nselect intersects POINT (5 5)\nrollback\nbegin\ndelete 9\ndelete 2\nget 2\ncommit\nbegin\ninsert 4 POINT (1 1)\ncommit\n\nsession 5 priority 10\n# a transaction without statements\nbegin\ncommit\nbegin\nfilter POINT (5 5)\ncommit\nbegin\ndelete where intersects POINT (5 5)\nupdate 4 POINT (2 2)\ncommit\nbegin\ninsert 10 POINT (7 7)\nselect intersects POINT (7 7)\nselect intersects POINT EMPTY\ncommit\n";
 
 const SESSIONS_TEXT: &[u8] =
+    b"commit 1 session 5 transaction 1\ncommit 2 session 1 transaction 1\n  inserted\n  keys 2 4\ncommit 3 session 5 transaction 2\n  keys 2 4\ncommit 4 session 5 transaction 3\n  deleted 2 4\n  missing\ncommit 5 session 1 transaction 3\n  done\n  shape POINT (7 7)\ncommit 6 session 2 transaction 2\n  missing\n  missing\n  none\ncommit 7 session 2 transaction 3\n  inserted\ncommit 8 session 5 transaction 4\n  inserted\n  keys 1 10\n  keys\nrolled back session 1 transaction 2\nrolled back session 2 transaction 1\nrows 4\n  1 POINT (7 7)\n  3 POINT EMPTY\n  4 POINT (1 1)\n  10 POINT (7 7)\n";
+
+/// What it prints where each session comes to its end before the next one begins.
+const SERIAL_TEXT: &[u8] =
     b"commit 1 session 1 transaction 1\n  inserted\n  keys 2 4\ncommit 2 session 1 transaction 3\n  done\n  shape POINT (7 7)\ncommit 3 session 2 transaction 2\n  missing\n  done\n  none\ncommit 4 session 2 transaction 3\n  duplicate\ncommit 5 session 5 transaction 1\ncommit 6 session 5 transaction 2\n  keys 4\ncommit 7 session 5 transaction 3\n  deleted 4\n  missing\ncommit 8 session 5 transaction 4\n  inserted\n  keys 1 10\n  keys\nrolled back session 1 transaction 2\nrolled back session 2 transaction 1\nrows 3\n  1 POINT (7 7)\n  3 POINT EMPTY\n  10 POINT (7 7)\n";
 
 /// The one word `replay`.
@@ -80,26 +85,6 @@ pub fn prints<R: Abort + Threads + Sync>(
     Ok(())
 }
 
-/// A text is refused, and nothing is printed of it.
-fn refuses<R: Abort + Threads + Sync>(rt: &R, alloc: Global, script: &[u8]) -> Result<(), Fail> {
-    let mut source = source(alloc, script)?;
-    let mut out = sink(alloc)?;
-    let mut err = sink(alloc)?;
-    let status = replay_main(
-        rt,
-        alloc,
-        &replay(alloc)?,
-        &mut source,
-        &mut out,
-        &mut err,
-        &OpenGate,
-    );
-    assert_eq!(rt; status.number(), 2);
-    assert!(rt; out.taken().is_empty());
-    assert!(rt; err.taken() == b"script refused\n".as_slice());
-    Ok(())
-}
-
 #[test]
 fn plays_scripts(rt: HostRuntime) -> Result<(), Fail> {
     prints(&rt, rt.alloc(), FIRST, FIRST_TEXT)?;
@@ -117,6 +102,25 @@ fn plays_several_sessions(rt: HostRuntime) -> Result<(), Fail> {
     prints(&rt, rt.alloc(), SESSIONS, SESSIONS_TEXT)
 }
 
+/// Puts a schedule line last: so many turns of the session, one after another.
+pub fn put_turns(text: &mut Vec<u8>, session: &[u8], turns: u32) -> Result<(), Fail> {
+    text.extend_from_slice(b"schedule")?;
+    for _ in 0..turns {
+        text.extend_from_slice(b" ")?;
+        text.extend_from_slice(session)?;
+    }
+    text.extend_from_slice(b"\n")?;
+    Ok(())
+}
+
+#[test]
+fn plays_one_session_after_another(rt: HostRuntime) -> Result<(), Fail> {
+    let mut script = Vec::from_slice(rt.alloc(), SESSIONS)?;
+    put_turns(&mut script, b"1", 60)?;
+    put_turns(&mut script, b"2", 60)?;
+    prints(&rt, rt.alloc(), script.as_slice(), SERIAL_TEXT)
+}
+
 #[test]
 fn rolls_back(rt: HostRuntime) -> Result<(), Fail> {
     prints(
@@ -131,23 +135,6 @@ fn rolls_back(rt: HostRuntime) -> Result<(), Fail> {
         b"row 1 POINT (1 1)\nrow 2 POINT (9 9)\nsession 1\nbegin\ndelete where intersects POINT (1 1)\nget 1\nrollback\nbegin\nget 1\nget 7\ndelete 7\ncommit\n",
         b"commit 1 session 1 transaction 2\n  shape POINT (1 1)\n  none\n  missing\nrolled back session 1 transaction 1\nrows 2\n  1 POINT (1 1)\n  2 POINT (9 9)\n",
     )
-}
-
-#[test]
-fn refuses_other_texts(rt: HostRuntime) -> Result<(), Fail> {
-    let alloc = rt.alloc();
-    refuses(&rt, alloc, b"session 1\nbegin\ninsert 1 POINT (3 4)\n")?;
-    refuses(&rt, alloc, b"Session 1\n")?;
-    refuses(&rt, alloc, b"session 1\nsession 1\n")?;
-    refuses(&rt, alloc, b"session 1 priority 11\n")?;
-    refuses(&rt, alloc, b"row 2 POINT (0 0)\nrow 2 POINT (0 0)\n")?;
-    refuses(
-        &rt,
-        alloc,
-        b"session 1\nbegin\nget 1234567890123456789\ncommit\n",
-    )?;
-    refuses(&rt, alloc, b"row 1 POINT (\xff 0)\n")?;
-    refuses(&rt, alloc, b"session 1\0\n")
 }
 
 #[test]

@@ -1,7 +1,7 @@
-use crate::program::replay_main;
+use crate::replay::replay_main;
 use crate::status::Status;
-use crate::tests::{USAGE, add, replay, replay_by, sink, source};
-use crate::words::{Form, Words};
+use crate::tests::{USAGE, put_turns, replay, replay_by, sink, source};
+use sg_command::Words;
 use sg_refine::{Gate, OpenGate};
 use std::alloc::Global;
 use std::process::Abort;
@@ -80,6 +80,8 @@ fn prints_city<R: Abort + Threads + Sync>(
     script.extend_from_slice(
         b"session 1\nbegin\nselect intersects POLYGON ((0 0, 120 0, 120 60, 0 60, 0 0))\ncommit\nsession 2\nbegin\ninsert 201 POINT (500 200)\ncommit\nsession 3\nbegin\nselect distance <= 10 POINT (50 20)\ndelete 200\ncommit\n",
     )?;
+    put_turns(&mut script, b"1", 4_000)?;
+    put_turns(&mut script, b"2", 100)?;
     let mut text = Vec::from_slice(
         alloc,
         b"commit 1 session 1 transaction 1\n  keys 1 2 3 21 22 23\ncommit 2 session 2 transaction 1\n  inserted\ncommit 3 session 3 transaction 1\n  keys 1 2\n  done\nrows 200\n",
@@ -103,25 +105,6 @@ fn a_city_by_one_worker(rt: HostRuntime) -> Result<(), Fail> {
 #[test]
 fn a_city_by_four_workers(rt: HostRuntime) -> Result<(), Fail> {
     prints_city(&rt, rt.alloc(), &replay_by(rt.alloc(), b"4")?)
-}
-
-#[test]
-fn numbers_of_workers(rt: HostRuntime) -> Result<(), Fail> {
-    let alloc = rt.alloc();
-    assert!(rt; replay(alloc)?.form() == Some(Form::Replay { workers: 1 }));
-    assert!(rt; replay_by(alloc, b"64")?.form() == Some(Form::Replay { workers: 64 }));
-    assert!(rt;
-        replay_by(alloc, b"00000000000000000001")?.form() == Some(Form::Replay { workers: 1 })
-    );
-    assert!(rt; replay_by(alloc, b"000000000000000000001")?.form().is_none());
-    assert!(rt; replay_by(alloc, b"99999999999999999999")?.form().is_none());
-    assert!(rt; replay_by(alloc, b"-1")?.form().is_none());
-    assert!(rt; replay_by(alloc, b"")?.form().is_none());
-    let mut twice = replay_by(alloc, b"2")?;
-    add(alloc, &mut twice, b"--workers")?;
-    add(alloc, &mut twice, b"2")?;
-    assert!(rt; twice.form().is_none());
-    Ok(())
 }
 
 /// These words have no form: the usage line is told, and nothing is read.
