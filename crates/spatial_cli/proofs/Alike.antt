@@ -7,7 +7,7 @@ use Rattle.sg_cells.specs.Laws.{Has}
 use Rattle.sg_modes.specs.Sessions.{IsSession}
 use Rattle.sg_plain.specs.Serial.{Entry}
 use Rattle.sg_plain.specs.Transactions.{TransactionPlan}
-use Rattle.sg_report.specs.Reports.{asked, scripted, commit_of, other_by, other_at, others_of, others_in}
+use Rattle.sg_report.specs.Reports.{Tells, asked, scripted, commit_of, other_by, other_at, others_of, others_in}
 use Rattle.sg_script.specs.declared.faults.ScriptFault.{ScriptFault}
 use Rattle.sg_script.specs.declared.sessions.SessionScript.{SessionScript}
 use Rattle.sg_script.specs.Plans.{Plan}
@@ -24,7 +24,7 @@ use Rattle.sg_run.specs.Runs.{RunShown, outcomes_in, outcome_in}
 use Rattle.sg_driver.specs.Laws as driven
 use Rattle.sg_driver.specs.Laws.{IsLastingRun, AreEqualRuns}
 use Rattle.sg_driver.proofs.Equal.{equal_runs}
-use Rattle.spatial_cli.specs.Plays.{IsRun}
+use Rattle.spatial_cli.specs.Plays.{IsRun, IsWholeRun}
 use Rattle.spatial_cli.specs.Runs.{IsTextOf}
 use Rattle.spatial_cli.specs.Laws.{MemoryLasted}
 
@@ -74,46 +74,47 @@ listed (x ∷ rest) s h = go (eqb x.session s) refl h (listed rest s)
     go true e h ih = record { script = x; there = inl refl; session = eqb-true x.session s e; count_is = refl }
     go false e h ih = let l = ih h in record { script = l.script; there = inr l.there; session = l.session; count_is = l.count_is }
 
-module _ (plan : Plan) (labels : Bool) (told : Told) (r : IsRun plan labels told) where
+module _ (plan : Plan) (labels trace : Bool) (last : RunShown) (told : Told) (tells : Tells labels trace last told) (finished : IsWholeRun plan last told.rows) where
   -- a transaction that ended for want of memory is told so
-  told_want : (s place : ℕ) → IsSession s → outcome_in r.last s (suc place) ≡ Some NoMemory → Has told.others (record { session = s; transaction = suc place; ending = ending.NoMemory })
+  told_want : (s place : ℕ) → IsSession s → outcome_in last s (suc place) ≡ Some NoMemory → Has told.others (record { session = s; transaction = suc place; ending = ending.NoMemory })
   told_want s place is e =
-      let at = slice_get_within (outcomes_in r.last s) place NoMemory e in
-      let each = r.finished.ended.each s is in
+      let at = slice_get_within (outcomes_in last s) place NoMemory e in
+      let each = finished.ended.each s is in
       let l = listed plan.sessions s (omega (arith, at, each)) in
       let n = l.count_is in
       let other : Other = record { session = s; transaction = suc place; ending = ending.NoMemory } in
-      let here : Has (other_at r.last l.script.session (suc place)) other =
-      subst (λ u. Has (other_at r.last u (suc place)) other) (sym l.session) (subst (λ (o : Option Outcome). Has (other_by s (suc place) o) other) (sym e) (inl refl)) in
-      let own = in_each (other_at r.last l.script.session) (count_from 1 (length l.script.transactions)) (suc place) other (counted 1 (length l.script.transactions) (suc place) (omega arith) (omega (arith, at, each, n))) here in
-      subst (λ (os : List Other). Has os other) (sym r.tells.others)
-      (in_each (others_of r.last) r.last.script.sessions l.script other (subst (λ (p : Plan). Has p.sessions l.script) (sym r.finished.script) l.there) own)
+      let here : Has (other_at last l.script.session (suc place)) other =
+      subst (λ u. Has (other_at last u (suc place)) other) (sym l.session) (subst (λ (o : Option Outcome). Has (other_by s (suc place) o) other) (sym e) (inl refl)) in
+      let own = in_each (other_at last l.script.session) (count_from 1 (length l.script.transactions)) (suc place) other (counted 1 (length l.script.transactions) (suc place) (omega arith) (omega (arith, at, each, n))) here in
+      subst (λ (os : List Other). Has os other) (sym tells.others)
+      (in_each (others_of last) last.script.sessions l.script other (subst (λ (p : Plan). Has p.sessions l.script) (sym finished.script) l.there) own)
 
-  lasted : MemoryLasted told → driven.MemoryLasted r.last
+  pub lasted : MemoryLasted told → driven.MemoryLasted last
   lasted h s zero is e = absurd (cc)
   lasted h s (suc place) is e = h (record { session = s; transaction = suc place; ending = ending.NoMemory }) (told_want s place is e) refl
 
-  lasting : MemoryLasted told → IsLastingRun plan r.last
-  lasting h = record { first = r.first; start = r.start; driven = r.driven; lasted = lasted h }
+pub lasting : (plan : Plan) (labels : Bool) (told : Told) (r : IsRun plan labels told) → MemoryLasted told → IsLastingRun plan r.last
+lasting plan labels told r h = record { first = r.first; start = r.start; driven = r.driven; lasted = lasted plan labels false r.last told r.tells r.finished h }
 
 -- ---- one text
+-- the other transactions are those of the script's sessions
+pub same_others : (v u : RunShown) → u.script.sessions ≡ v.script.sessions → AreEqualRuns v u → others_in u ≡ others_in v
+same_others v u sessions same =
+    ap (flat_map (others_of u)) sessions
+    ∙ (ap (λ (past : List Past). flat_map (others_of (record { script = u.script; engine = u.engine; past = past })) v.script.sessions) same.past
+    ∙ ap (λ (ls : List Label). flat_map (others_of (record { script = u.script; engine = record { stage = v.engine.stage; labels = ls; journal = v.engine.journal; seats = v.engine.seats; jobs = v.engine.jobs }; past = v.past })) v.script.sessions) same.labels)
+
 told_alike : (plan : Plan) (labels : Bool) (a b : Told) → IsRun plan labels a → IsRun plan labels b → MemoryLasted a → MemoryLasted b → b ≡ a
 told_alike plan labels a b r q la lb =
     let same = equal_runs plan r.last q.last (lasting plan labels a r la) (lasting plan labels b q lb) in
     let commits : b.commits ≡ a.commits =
     q.tells.commits
     ∙ (ap₂ (λ (past : List Past) (js : List Entry). map commit_of (map (scripted past) js)) same.past same.journal ∙ sym r.tells.commits) in
-    let others : b.others ≡ a.others = q.tells.others ∙ (same_others r.last q.last (q.finished.script ∙ sym r.finished.script) same ∙ sym r.tells.others) in
+    let others : b.others ≡ a.others = q.tells.others ∙ (same_others r.last q.last (ap (λ (p : Plan). p.sessions) (q.finished.script ∙ sym r.finished.script)) same ∙ sym r.tells.others) in
     let rows = same.rows a.rows b.rows r.tells.rows q.tells.rows in
     let told_labels : b.labels ≡ a.labels = q.tells.labels ∙ (ap (λ (ls : List Label). asked labels ls) same.labels ∙ sym r.tells.labels) in
     let turns : b.schedule ≡ a.schedule = q.tells.turns ∙ sym r.tells.turns in
     λ i. record { commits = commits i; others = others i; rows = rows i; labels = told_labels i; schedule = turns i }
-  where
-    same_others : (v u : RunShown) → u.script ≡ v.script → AreEqualRuns v u → others_in u ≡ others_in v
-    same_others v u script same =
-        ap (λ (x : Plan). others_in (record { script = x; engine = u.engine; past = u.past })) script
-        ∙ (ap (λ (past : List Past). others_in (record { script = v.script; engine = u.engine; past = past })) same.past
-        ∙ ap (λ (ls : List Label). others_in (record { script = v.script; engine = record { stage = v.engine.stage; labels = ls; journal = v.engine.journal; seats = v.engine.seats; jobs = v.engine.jobs }; past = v.past })) same.labels)
 
 ok_same : (x y : Plan) → ◌≡◌ {A = Result Plan ScriptFault} (Ok x) (Ok y) → x ≡ y
 ok_same x y e = cc

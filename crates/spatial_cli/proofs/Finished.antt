@@ -26,6 +26,8 @@ use Rattle.sg_report.proofs.Sounds.{journal_is, plainly}
 use Rattle.spatial_cli.specs.Plays.{IsWholeRun}
 use Rattle.spatial_cli.specs.Makes.{IsMadeText}
 use Rattle.spatial_cli.specs.Runs.{IsRunText}
+use Rattle.spatial_cli.specs.Threaded.{IsThreadText}
+use Rattle.sg_threads.specs.Runs.{IsRunIn, AllHaveEnded}
 use Rattle.spatial_cli.proofs.Orders.{IsCounted, order_scripted}
 use Rattle.spatial_cli.proofs.Ended.{entry_counted, all_ended}
 
@@ -88,6 +90,22 @@ pub played : {E : Type 0} (plan : Plan) (labels : Bool) (first last : RunShown) 
     IfOk result (λ text. IsReportOf labels false last text.items) → IfOk result (λ text. IsRunText plan labels text.items)
 played plan labels first last (Ok text) script none past legal driven report = told_run plan labels first last text.items (record { script = script; none = none; past = past; legal = legal }) driven report
 played plan labels first last (Err e) script none past legal driven report = tt
+
+-- the same of a run whose sessions have all ended, whatever turns it took
+pub threaded : {E : Type 0} (plan : Plan) (labels trace : Bool) (last : RunShown) (result : Result (Vec ℕ) E) → IsRunIn plan last → AllHaveEnded last →
+    IfOk result (λ text. IsReportOf labels trace last text.items) → IfOk result (λ text. IsThreadText plan labels trace text.items)
+threaded plan labels trace last (Ok text) run ended report = record {
+  told = report.told;
+  run = record {
+    last = last;
+    ended = ended;
+    tells = report.tells;
+    finished = finished plan last report.told.rows run.script ended run.legal report.tells.rows;
+  };
+  fits = report.fits;
+  is = report.is;
+}
+threaded plan labels trace last (Err e) run ended report = tt
 
 -- ---- a script that was made
 pub made_text : (seed rows sessions : ℕ) (plan : Plan) (first last : RunShown) (line text : List ℕ) → plan ≡ script_of seed rows sessions → first.script ≡ plan → IsRunOf [] first.engine → ((s : ℕ) → past_in first.past s ≡ [])

@@ -4,3 +4,4 @@ pub mod Orders
 pub mod Ended
 pub mod Finished
 pub mod Alike
+pub mod Replays

@@ -3,6 +3,7 @@ pub mod Faults
 pub mod Plays
 pub mod Runs
 pub mod Makes
+pub mod Threaded
 pub mod Calls
 pub mod Statuses
 pub mod Laws

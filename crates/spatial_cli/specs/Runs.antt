@@ -6,8 +6,6 @@ use Rattle.sg_texts.specs.Told.{Told, IsTold, told_text}
 use Rattle.sg_script.specs.declared.faults.ScriptFault.{ScriptFault}
 use Rattle.sg_script.specs.Grammar.{script_in}
 use Rattle.sg_script.specs.Plans.{Plan}
-use Rattle.spatial_cli.specs.declared.replay.Unplayed.{Unplayed}
-use Rattle.spatial_cli.specs.declared.replay.Unplayed.TheVariants.{Refused, OutOfMemory}
 use Rattle.spatial_cli.specs.Faults.{fault_line}
 use Rattle.spatial_cli.specs.Plays.{IsRun}
 
@@ -16,6 +14,12 @@ pub record Gave (before after : Option (List ℕ)) (bytes : List ℕ) : Type 0 w
   pub read : Consumes before after bytes
   pub end : IsAtEnd after
   pub within : length bytes ≤ 67108864
+
+-- these bytes were the script
+pub record GaveScript (before after : Option (List ℕ)) (plan : Plan) : Type 0 where
+  pub bytes : List ℕ
+  pub given : Gave before after bytes
+  pub script : script_in bytes ≡ Ok plan
 
 -- the text of a run of the script; what it tells fits, so that no other such text tells otherwise
 pub record IsRunText (plan : Plan) (labels : Bool) (text : List ℕ) : Type 0 where
@@ -86,8 +90,3 @@ HoldsNone (Some bytes) = (67108864 < length bytes) ⊎ ((fault : ScriptFault) ×
 abbrev pub Said : ℕ → ℕ → Option (List ℕ) → Option (List ℕ) → List ℕ → Type 0
 Said faults_before faults_after old new message =
     Appends old new message ⊎ (Rose faults_before faults_after × ((sent : ℕ) × Appends old new (take sent message)))
-
--- what is said where there is no text of a run, if the bytes are no script
-abbrev pub line_in : Unplayed → Option (List ℕ)
-line_in (Refused line) = Some line.items
-line_in OutOfMemory = None

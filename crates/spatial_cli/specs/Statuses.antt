@@ -1,5 +1,5 @@
 -- How the program ends: its status, its number, and what it says of it.
-use Rattle.std.specs.Prelude.{ℕ, List, [], ◌∷◌, ◌++◌, Option, Some, None, codes}
+use Rattle.std.specs.Prelude.{ℕ, Bool, true, false, List, [], ◌∷◌, ◌++◌, Option, Some, None, codes}
 use Rattle.spatial_cli.specs.declared.status.Ending.{Ending}
 use Rattle.spatial_cli.specs.declared.status.Ending.TheVariants as ending
 use Rattle.spatial_cli.specs.declared.status.Status.{Status}
@@ -38,6 +38,16 @@ message_of ending.TooLong = line_of (codes "script too long")
 message_of ending.ReadFault = line_of (codes "read fault")
 message_of ending.WriteFault = line_of (codes "write fault")
 message_of ending.OutOfMemory = line_of (codes "out of memory")
+
+-- an end before there is a script: what was read is none, or nothing could be read, for a fault or for want of memory
+abbrev pub is_of_reading : Ending → Bool
+is_of_reading (ending.Refused line) = true
+is_of_reading ending.TooLong = true
+is_of_reading ending.ReadFault = true
+is_of_reading ending.OutOfMemory = true
+is_of_reading ending.Done = false
+is_of_reading ending.Usage = false
+is_of_reading ending.WriteFault = false
 
 -- what is said of a script that is refused
 abbrev pub refusal_in : Ending → Option (List ℕ)

@@ -2,14 +2,31 @@ use crate::tests::{prints, put_turns};
 use std::alloc::Global;
 use std::test::Fail;
 
-/// A row, and a session for each number from 1 to 64: it begins, does the first statement where there is one, moves
-/// the row to the place of its number, and commits.
-fn crowd(alloc: Global, first: &str) -> Result<Vec<u8>, Fail> {
+/// Puts a session last: it begins, does the first statement where there is one, moves the row to the place of its
+/// number, and commits.
+fn put_session(alloc: Global, text: &mut Vec<u8>, session: u32, first: &[u8]) -> Result<(), Fail> {
+    let head = format!(in alloc; "session {session}\nbegin\n")?;
+    let move_row = format!(in alloc; "update 1 POINT ({session} {session})\ncommit\n")?;
+    text.extend_from_slice(head.as_bytes())?;
+    text.extend_from_slice(first)?;
+    text.extend_from_slice(move_row.as_bytes())?;
+    Ok(())
+}
+
+/// A row, and a session for each number from 1 to 64.
+fn crowd(alloc: Global, first: &[u8]) -> Result<Vec<u8>, Fail> {
     let mut text = Vec::from_slice(alloc, b"row 1 POINT (0 0)\n")?;
     for session in 1..=64u32 {
-        let lines = format!(in alloc;
-            "session {session}\nbegin\n{first}update 1 POINT ({session} {session})\ncommit\n"
-        )?;
+        put_session(alloc, &mut text, session, first)?;
+    }
+    Ok(text)
+}
+
+/// The commits of all, by session.
+fn commits(alloc: Global) -> Result<Vec<u8>, Fail> {
+    let mut text = Vec::new(alloc);
+    for place in 1..=64u32 {
+        let lines = format!(in alloc; "commit {place} session {place} transaction 1\n  done\n")?;
         text.extend_from_slice(lines.as_bytes())?;
     }
     Ok(text)
@@ -19,13 +36,10 @@ fn crowd(alloc: Global, first: &str) -> Result<Vec<u8>, Fail> {
 #[test]
 fn all_write_one_row(rt: HostRuntime) -> Result<(), Fail> {
     let alloc = rt.alloc();
-    let mut text = Vec::new(alloc);
-    for place in 1..=64u32 {
-        let lines = format!(in alloc; "commit {place} session {place} transaction 1\n  done\n")?;
-        text.extend_from_slice(lines.as_bytes())?;
-    }
+    let script = crowd(alloc, b"")?;
+    let mut text = commits(alloc)?;
     text.extend_from_slice(b"rows 1\n  1 POINT (64 64)\n")?;
-    prints(&rt, alloc, crowd(alloc, "")?.as_slice(), text.as_slice())
+    prints(&rt, alloc, script.as_slice(), text.as_slice())
 }
 
 /// The lines of the victims 2 to 64. A wait is over as soon as one of those that it names has ended, so each round
@@ -52,12 +66,8 @@ fn all_read_the_row_that_they_write(rt: HostRuntime) -> Result<(), Fail> {
     )?;
     put_victims(alloc, &mut text)?;
     text.extend_from_slice(b"rows 1\n  1 POINT (1 1)\n")?;
-    prints(
-        &rt,
-        alloc,
-        crowd(alloc, "get 1\n")?.as_slice(),
-        text.as_slice(),
-    )
+    let script = crowd(alloc, b"get 1\n")?;
+    prints(&rt, alloc, script.as_slice(), text.as_slice())
 }
 
 // Turns of sessions that have ended, and of one that has no transaction, do nothing; nor do those past the end of all.

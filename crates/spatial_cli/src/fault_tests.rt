@@ -117,3 +117,52 @@ fn faults_of_grids(rt: HostRuntime) -> Result<(), Fail> {
     )?;
     refuses(&rt, alloc, cells, b"script line 2: grid cells out\n")
 }
+
+#[test]
+fn texts_cut_in_a_row(rt: HostRuntime) -> Result<(), Fail> {
+    let alloc = rt.alloc();
+    refuses(&rt, alloc, b"ro", b"script line 1: word\n")?;
+    refuses(&rt, alloc, b"row", b"script line 1: number\n")?;
+    refuses(
+        &rt,
+        alloc,
+        b"row 1",
+        b"script line 1: shape end at byte 0\n",
+    )?;
+    refuses(
+        &rt,
+        alloc,
+        b"row 1 POINT (0",
+        b"script line 1: shape end at byte 8\n",
+    )?;
+    refuses(
+        &rt,
+        alloc,
+        b"row 1 POINT (0 0",
+        b"script line 1: shape end at byte 10\n",
+    )
+}
+
+#[test]
+fn texts_cut_in_a_session(rt: HostRuntime) -> Result<(), Fail> {
+    let alloc = rt.alloc();
+    let open = b"session 1\nbegin\ninsert 1 POINT (5 5)";
+    refuses(&rt, alloc, b"session 1\nbeg", b"script line 2: word\n")?;
+    refuses(&rt, alloc, open, b"script line 3: not closed\n")
+}
+
+#[test]
+fn faults_of_coordinates(rt: HostRuntime) -> Result<(), Fail> {
+    let alloc = rt.alloc();
+    let second = b"row 1 POINT (16000000 16000001)";
+    let second_line = b"script line 1: shape coordinate out at byte 16\n";
+    let first_line = b"script line 1: shape coordinate out at byte 7\n";
+    refuses(&rt, alloc, second, second_line)?;
+    refuses(&rt, alloc, b"row 1 POINT (16000001 0)", first_line)?;
+    refuses(
+        &rt,
+        alloc,
+        b"row 1 POINT (3.5 0)",
+        b"script line 1: shape fraction at byte 7\n",
+    )
+}

@@ -1,6 +1,6 @@
 //! What holds of all printed texts.
 
-ghost use Rattle.spatial_cli.specs.Laws.{TextTellsRun, ScriptsHaveOneText};
+ghost use Rattle.spatial_cli.specs.Laws.{TextTellsRun, ScriptsHaveOneText, PrintedTurnsReplay};
 
 use sg_texts::told_tells;
 
@@ -16,4 +16,11 @@ pub fn text_tells_run()
 /// call does nothing.
 pub fn one_text()
     ensures { ScriptsHaveOneText }
+{}
+
+/// Where no transaction ends for want of memory, the text that `threads --trace` prints is what `replay` prints of a
+/// script with the same table and sessions whose order is the printed one, and then the line of this order. The call does
+/// nothing.
+pub fn printed_turns_replay()
+    ensures { PrintedTurnsReplay }
 {}

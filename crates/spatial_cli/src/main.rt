@@ -1,11 +1,14 @@
-//! The program: a script of transactions on a table of shapes, run by its sessions in turns, and printed; or a script
-//! that is made from a number.
+//! The program: a script of transactions on a table of shapes, run by its sessions in turns or in threads of their own,
+//! and printed; or a script that is made from a number.
 #![tactic(auto)]
 
 #[cfg(test)]
 mod alike_tests;
 #[cfg(test)]
 mod crowd_tests;
+#[cfg(test)]
+mod device_tests;
+mod ends;
 #[cfg(test)]
 mod example_tests;
 #[cfg(test)]
@@ -16,16 +19,23 @@ mod index_tests;
 #[cfg(test)]
 mod label_tests;
 mod laws;
+#[cfg(test)]
+mod lock_tests;
 mod making;
 #[cfg(test)]
 mod making_tests;
 mod program;
 mod replay;
+mod sessions;
+#[cfg(test)]
+mod sessions_tests;
 #[cfg(test)]
 mod shape_tests;
 #[cfg(test)]
 mod statement_tests;
 mod status;
+#[cfg(test)]
+mod stranger_tests;
 #[cfg(test)]
 mod tests;
 #[cfg(test)]
@@ -33,7 +43,7 @@ mod turns_tests;
 #[cfg(test)]
 mod workers_tests;
 
-pub use laws::{one_text, text_tells_run};
+pub use laws::{one_text, printed_turns_replay, text_tells_run};
 pub use making::make_main;
 pub use program::spatial_main;
 pub use replay::replay_main;

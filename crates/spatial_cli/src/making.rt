@@ -7,12 +7,12 @@ ghost use Rattle.spatial_cli.specs.Runs.{Said};
 ghost use Rattle.spatial_cli.specs.declared.status.Ending.{Ending};
 ghost use Rattle.spatial_cli.specs.Statuses.{message_of, status_of};
 
-use crate::replay::say;
+use crate::ends::{print, say};
 use crate::status::{Ending, Status};
 use sg_celltest::CellTest;
 use sg_command::{Form, Words};
 use sg_driver::{Workers, drive};
-use sg_io::{Sink, Source, write_all};
+use sg_io::{Sink, Source};
 use sg_refine::Gate;
 use sg_relate::Relate;
 use sg_report::summary;
@@ -88,12 +88,9 @@ fn make<R: Threads + Sync, K: Sink, G: Gate + Sync>(
         Err(AllocError) => return Ending::OutOfMemory,
     };
     let workers = Workers { rt, count: 1, gate };
-    let Ok(text) = made(&workers, alloc, seed, rows, sessions) else {
-        return Ending::OutOfMemory;
-    };
-    match write_all(out, text.as_slice()) {
-        Ok(()) => Ending::Done,
-        Err(_) => Ending::WriteFault,
+    match made(&workers, alloc, seed, rows, sessions) {
+        Ok(text) => print(out, text.as_slice()),
+        Err(AllocError) => Ending::OutOfMemory,
     }
 }
 

@@ -1,23 +1,22 @@
-ghost use Rattle.std.specs.Prelude.{◌≡◌, ℕ, ◌≢◌, ◌⊎◌, ◌≤◌, List, true, false, length, IfOk, IfErr, IfSome};
+ghost use Rattle.std.specs.Prelude.{◌≡◌, ℕ, ◌≢◌, ◌⊎◌, List, true, false, IfOk, IfSome};
 ghost use Rattle.sg_io.specs.Causes.{Rose};
 ghost use Rattle.sg_command.specs.Words.{form_of};
 ghost use Rattle.spatial_cli.specs.Asked.{asks_labels, is_replay};
-ghost use Rattle.spatial_cli.specs.Faults.{fault_line as line_of_fault};
-ghost use Rattle.spatial_cli.specs.Runs.{HoldsNone, HoldsScript, IsCut, IsFaultIn, IsRefused, IsReplay, IsRunText, IsTextOf, IsTooLong, Said, line_in};
+ghost use Rattle.spatial_cli.specs.Runs.{HoldsNone, HoldsScript, IsCut, IsRefused, IsReplay, IsRunText, IsTooLong, Said};
 ghost use Rattle.spatial_cli.specs.declared.status.Ending.{Ending};
 ghost use Rattle.spatial_cli.specs.Statuses.{message_of, refusal_in, status_of};
 
-use crate::faults::fault_line;
+use crate::ends::{print, say, script_of};
 use crate::status::{Ending, Status};
 use sg_celltest::CellTest;
 use sg_command::{Form, Words};
 use sg_driver::{Workers, drive};
-use sg_io::{ReadEnd, Sink, Source, read_all, write_all};
+use sg_io::{Sink, Source};
 use sg_refine::Gate;
 use sg_relate::Relate;
 use sg_report::report;
 use sg_run::Run;
-use sg_script::{ReadScript, Script, ScriptFault, read_script};
+use sg_script::Script;
 use std::alloc::{AllocError, Global};
 use std::thread::Threads;
 
@@ -47,7 +46,7 @@ pub fn replay_main<R: Threads + Sync, S: Source, K: Sink, E: Sink, G: Gate + Syn
     // What out and err have taken then.
     ensures cut { result ≡ Status.WriteFault → IsCut (asks_labels (form_of words.now)) (S.left source.old) (S.left source.new) (K.taken out.old) (K.taken out.new) }
     ensures nothing { result ≢ Status.Done → result ≢ Status.WriteFault → K.taken out.new ≡ K.taken out.old }
-    ensures unread { is_replay (form_of words.now) ≡ false → S.left source.new ≡ S.left source.old }
+    ensures unread { result ≡ Status.Usage → S.left source.new ≡ S.left source.old }
     ensures said { (e : Ending) → result ≡ status_of e → result ≢ Status.Script
         → Said (E.faults err.old) (E.faults err.new) (E.taken err.old) (E.taken err.new) (message_of e) }
 
@@ -61,15 +60,6 @@ pub fn replay_main<R: Threads + Sync, S: Source, K: Sink, E: Sink, G: Gate + Syn
     let end = replay(rt, alloc, words, source, out, gate);
     say(err, end.message());
     end.status()
-}
-
-pub(crate) fn say<E: Sink>(err: &mut E, message: &[u8])
-    ensures { Said (E.faults err.old) (E.faults err.new) (E.taken err.old) (E.taken err.new) message.now }
-{
-    match write_all(err, message) {
-        Ok(()) => {}
-        Err(_) => {}
-    }
 }
 
 fn replay<R: Threads + Sync, S: Source, K: Sink, G: Gate + Sync>(
@@ -89,7 +79,7 @@ fn replay<R: Threads + Sync, S: Source, K: Sink, G: Gate + Sync>(
     ensures write { result ≡ Ending.WriteFault → Rose (K.faults out.old) (K.faults out.new) }
     ensures cut { result ≡ Ending.WriteFault → IsCut (asks_labels (form_of words.now)) (S.left source.old) (S.left source.new) (K.taken out.old) (K.taken out.new) }
     ensures nothing { result ≢ Ending.Done → result ≢ Ending.WriteFault → K.taken out.new ≡ K.taken out.old }
-    ensures unread { is_replay (form_of words.now) ≡ false → S.left source.new ≡ S.left source.old }
+    ensures unread { result ≡ Ending.Usage → S.left source.new ≡ S.left source.old }
 {
     match words.form(alloc) {
         Ok(
@@ -109,7 +99,7 @@ fn replay<R: Threads + Sync, S: Source, K: Sink, G: Gate + Sync>(
 }
 
 /// Replays the script that is left of the source, its candidates refined by the workers.
-#[tactic(auto, using(crate::proofs::CauseLemmas::cut_of))]
+#[tactic(auto, using(crate::proofs::CauseLemmas::replay_of, crate::proofs::CauseLemmas::cut_of))]
 fn replay_all<R: Threads + Sync, S: Source, K: Sink, G: Gate + Sync>(
     workers: &Workers<R, G>,
     labels: bool,
@@ -126,60 +116,13 @@ fn replay_all<R: Threads + Sync, S: Source, K: Sink, G: Gate + Sync>(
     ensures cut { result ≡ Ending.WriteFault → IsCut labels (S.left source.old) (S.left source.new) (K.taken out.old) (K.taken out.new) }
     ensures nothing { result ≢ Ending.Done → result ≢ Ending.WriteFault → K.taken out.new ≡ K.taken out.old }
 {
-    let bytes = match read_all(alloc, source) {
-        Ok(bytes) => bytes,
-        Err(ReadEnd::Fault) => return Ending::ReadFault,
-        Err(ReadEnd::TooLong) => return Ending::TooLong,
-        Err(ReadEnd::OutOfMemory) => return Ending::OutOfMemory,
-    };
-    let text = match replayed(workers, labels, alloc, bytes.as_slice()) {
-        Ok(text) => text,
-        Err(Unplayed::Refused(line)) => return Ending::Refused(line),
-        Err(Unplayed::OutOfMemory) => return Ending::OutOfMemory,
-    };
-    match write_all(out, text.as_slice()) {
-        Ok(()) => Ending::Done,
-        Err(_) => Ending::WriteFault,
-    }
-}
-
-/// Why there is no text of a run.
-#[derive(Debug, Drop)]
-enum Unplayed {
-    /// The bytes are no script; the line says where and why.
-    Refused(Vec<u8>),
-    OutOfMemory,
-}
-
-/// The text of a run of the script that the bytes spell.
-fn replayed<R: Threads + Sync, G: Gate + Sync>(
-    workers: &Workers<R, G>,
-    labels: bool,
-    alloc: Global,
-    bytes: &[u8],
-) -> Result<Vec<u8>, Unplayed>
-    requires { length bytes.now ≤ 67108864 }
-    ensures text { IfOk result (λ text. IsTextOf labels bytes.now text.items) }
-    ensures refused { IfErr result (λ unplayed. IfSome (line_in unplayed) (λ line. IsFaultIn bytes.now line)) }
-{
-    let script = match read_script(alloc, bytes) {
+    let script = match script_of(alloc, source) {
         Ok(script) => script,
-        Err(ReadScript::Fault(fault)) => return Err(refusal(alloc, &fault)),
-        Err(ReadScript::OutOfMemory) => return Err(Unplayed::OutOfMemory),
+        Err(end) => return end,
     };
     match played(workers, labels, alloc, script) {
-        Ok(text) => Ok(text),
-        Err(AllocError) => Err(Unplayed::OutOfMemory),
-    }
-}
-
-/// What is said of the fault, if there is memory for it.
-fn refusal(alloc: Global, fault: &ScriptFault) -> Unplayed
-    ensures { IfSome (line_in result) (λ line. line ≡ line_of_fault fault.now) }
-{
-    match fault_line(alloc, fault) {
-        Ok(line) => Unplayed::Refused(line),
-        Err(AllocError) => Unplayed::OutOfMemory,
+        Ok(text) => print(out, text.as_slice()),
+        Err(AllocError) => Ending::OutOfMemory,
     }
 }
 

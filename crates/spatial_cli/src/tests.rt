@@ -6,6 +6,7 @@ use sg_io::{MemorySink, MemorySource};
 use sg_refine::OpenGate;
 use std::alloc::Global;
 use std::process::Abort;
+use std::sync::Wait;
 use std::test::Fail;
 use std::thread::Threads;
 
@@ -61,7 +62,7 @@ pub fn sink(alloc: Global) -> Result<MemorySink, Fail> {
 }
 
 /// A script is played, and the text that is printed is this one.
-pub fn prints<R: Abort + Threads + Sync>(
+pub fn prints<R: Abort + Threads + Wait + Sync>(
     rt: &R,
     alloc: Global,
     script: &[u8],
