@@ -162,11 +162,10 @@ def answer_is(rows, statement, answer):
     return fields == ["deleted" if word == "delete where" else "keys", *map(str, keys)]
 
 
-def play(program, given):
+def report_of(printed):
     """The commits as session, transaction and answers, the lines of the others, and those of the rows."""
-    done = subprocess.run([program, "replay"], input=given.encode(), capture_output=True, check=True)
     commits, others, rows = [], [], None
-    for line in done.stdout.decode().splitlines():
+    for line in printed.splitlines():
         fields = line.split()
         if rows is not None:
             rows.append(line[2:])
@@ -182,8 +181,14 @@ def play(program, given):
     return commits, others, rows
 
 
-def fault(program, lines, rows, sessions, report):
-    """What is wrong with a report, if anything is."""
+def play(program, given):
+    """The report of a script."""
+    done = subprocess.run([program, "replay"], input=given.encode(), capture_output=True, check=True)
+    return report_of(done.stdout.decode())
+
+
+def fault(program, lines, rows, sessions, report, refused=False):
+    """What is wrong with a report, if anything is; where memory was refused, transactions may have wanted it."""
     commits, others, printed = report
     by_number = {number: transactions for number, _, transactions in sessions}
     ended = [(session, number) for session, number, _ in commits]
@@ -192,7 +197,7 @@ def fault(program, lines, rows, sessions, report):
         ended.append((session, number))
         if fields[0] == "rolled" and by_number[session][number - 1][1] != "rollback":
             return "a rollback that the script hasn't"
-        if fields[0] == "no":
+        if fields[0] == "no" and not refused:
             return "want of memory"
     if sorted(ended) != sorted((session, number + 1) for session in by_number for number in range(len(by_number[session]))):
         return "the outcomes aren't one for each transaction"

@@ -4,10 +4,10 @@
     bench/examples.py [PROGRAM]
 
 Each script and each expected text must stand whole in a literal of a test of crates/spatial_cli, so that the gate
-plays just these bytes; so must the text with labels, where an example has one. The program's stored run must be the
-first example's, and docs/TUTORIAL.md must show each script that has labels, and its labels. With PROGRAM, the built
-spatial_cli, each script is played too, and prints the expected text. The status is 1 where anything differs, and each
-difference has a line.
+plays just these bytes. The program's stored run must be the first example's, and docs/TUTORIAL.md must show each
+script that has labels, and its labels. With PROGRAM, the built spatial_cli, each script is played too, with its labels
+where an example has them, and prints the expected text. The status is 1 where anything differs, and each difference
+has a line.
 """
 
 import ast
@@ -49,7 +49,7 @@ def main():
         if labels.exists():
             texts.append((labels, ["--labels"]))
             faults += [f"{file.name} isn't in the tutorial" for file in (script, labels) if not is_shown(file)]
-        files = [script] + [text for text, _ in texts]
+        files = [script, script.with_suffix(".expected")]
         faults += [f"{file.name} stands in no test" for file in files if file.read_bytes() not in tested]
         for text, words in texts if len(sys.argv) > 1 else []:
             done = subprocess.run([sys.argv[1], "replay"] + words, input=script.read_bytes(), capture_output=True)
