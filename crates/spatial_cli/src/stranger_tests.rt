@@ -35,10 +35,14 @@ fn session(number: u8) -> Result<Session, Fail> {
     Ok(Session::new(number).ok_or("a session has a number from 1 to 64")?)
 }
 
+/// A run of the script, in which nothing has happened.
 fn opened<R: Threads + Sync>(rt: &R, alloc: Global, script: &[u8]) -> Result<Real, Fail> {
+    if script.len() > 1_000 {
+        return Err(Fail::from("too long"));
+    }
     match read_script(alloc, script) {
         Ok(script) => Ok(Run::open(rt, alloc, Relate, CellTest, script)?),
-        Err(_) => Err("a script")?,
+        Err(_) => Err(Fail::from("no script")),
     }
 }
 
@@ -48,11 +52,11 @@ fn refined<R: Threads + Sync>(rt: &R, alloc: Global, run: &mut Real) -> Result<R
         if let Turn::Job(job) = run.turn(session(1)?) {
             return match refine(rt, alloc, &Relate, 1, &OpenGate, job) {
                 Ok(done) => Ok(done),
-                Err(_) => Err("no memory to refine")?,
+                Err(_) => Err(Fail::from("no memory to refine")),
             };
         }
     }
-    Err("no job is given out")?
+    Err(Fail::from("no job is given out"))
 }
 
 /// The result of the first job of session 1 in a run of the script.
