@@ -35,8 +35,6 @@ mod shape_tests;
 mod statement_tests;
 mod status;
 #[cfg(test)]
-mod stranger_tests;
-#[cfg(test)]
 mod tests;
 #[cfg(test)]
 mod turns_tests;
