@@ -5,14 +5,16 @@ use mathlib.Core.Logic.{inl, inr}
 use lib.IntN.{ℤ, pos, ◌-ℤ◌, ◌*ℤ◌}
 use lib.Signed.{◌<ℤ◌, ◌≤ℤ◌, lt_z}
 use Rattle.std.specs.List.{list_any, All}
-use Rattle.sg_distance.proofs.Integers.{sums}
-use Rattle.sg_distance.proofs.Comparisons.{true-from_le, lt-from_true, left_true, right_true, both, either_true, or_left, or_right}
+use Rattle.sg_algebra.proofs.Ring.{sums}
+use Rattle.sg_algebra.proofs.Comparisons.{true-from_le, lt-from_true, left_true, right_true, both, either_true, or_left, or_right, is_false}
 use Rattle.sg_distance.proofs.Signs.{n*n}
 use Rattle.sg_distance.proofs.Found.{Both, edges_found}
 use Rattle.sg_distance.proofs.EdgeTests.{edges_mean}
 use Rattle.sg_distance.proofs.Bounds.{EdgesIn, lines_in, edge_in, apart_x, apart_y}
 use Rattle.sg_distance.proofs.Pairs.{near-turned}
-use Rattle.sg_distance.specs.Edges.{below, NearPoints, cross_test, foot_test, spot_test, edges_test, gap_at, dot_at, cross_at}
+use Rattle.sg_distance.specs.Edges.{below, cross_test, foot_test, spot_test, edges_test, gap_at, dot_at}
+use Rattle.sg_distance.proofs.Nearness.{SquareWithin}
+use Rattle.sg_segment.specs.Sides.{cross}
 use Rattle.sg_distance.specs.Shapes.{are_near, is_near_any, are_apart, is_gap}
 use Rattle.sg_distance.specs.declared.edges.Limit.{Limit}
 use Rattle.sg_shape.specs.Plane.{Point, edges_of}
@@ -29,10 +31,10 @@ weaker true a b h = true-from_le a b (let k : a <ℤ b = lt-from_true a b h in o
 
 weaker_foot : (s : Bool) (D : ℤ) (c : Spot) (e : Edge) → foot_test s D c e ≡ true → foot_test false D c e ≡ true
 weaker_foot s D c e t =
-    let r = right_true (lt_z (pos 0) (dot_at e.from e.to c)) (lt_z (dot_at e.from e.to c) (gap_at e.from e.to) && below s (cross_at e.from e.to c *ℤ cross_at e.from e.to c) (D *ℤ gap_at e.from e.to)) t in
+    let r = right_true (lt_z (pos 0) (dot_at e.from e.to c)) (lt_z (dot_at e.from e.to c) (gap_at e.from e.to) && below s (cross e.from e.to c *ℤ cross e.from e.to c) (D *ℤ gap_at e.from e.to)) t in
     both (lt_z (pos 0) (dot_at e.from e.to c)) _ (left_true (lt_z (pos 0) (dot_at e.from e.to c)) _ t)
     (both (lt_z (dot_at e.from e.to c) (gap_at e.from e.to)) _ (left_true (lt_z (dot_at e.from e.to c) (gap_at e.from e.to)) _ r)
-    (weaker s _ _ (right_true (lt_z (dot_at e.from e.to c) (gap_at e.from e.to)) (below s (cross_at e.from e.to c *ℤ cross_at e.from e.to c) (D *ℤ gap_at e.from e.to)) r)))
+    (weaker s _ _ (right_true (lt_z (dot_at e.from e.to c) (gap_at e.from e.to)) (below s (cross e.from e.to c *ℤ cross e.from e.to c) (D *ℤ gap_at e.from e.to)) r)))
 
 weaker_or : (a b c d : Bool) → (a ≡ true → c ≡ true) → (b ≡ true → d ≡ true) → (a || b) ≡ true → (c || d) ≡ true
 weaker_or a b c d f g t = elim (either_true a b t) [ inl l ↦ or_left c d (f l) | inr r ↦ or_right c d (g r) ]
@@ -52,7 +54,7 @@ weaker_edges s D e f t =
 
 -- ---- boxes apart
 -- no near points in two boxes that lie apart
-pub apart_points : (d : ℤ) → pos 0 ≤ℤ d → (a b : Bounds) (p q : Point) → PointIn a p → PointIn b q → NearPoints false (d *ℤ d) p q → are_apart d a b ≡ true → ⊥
+pub apart_points : (d : ℤ) → pos 0 ≤ℤ d → (a b : Bounds) (p q : Point) → PointIn a p → PointIn b q → SquareWithin false (d *ℤ d) p q → are_apart d a b ≡ true → ⊥
 apart_points d o a b p q i j n t = elim (either_true (is_gap d a.xmin a.xmax b.xmin b.xmax) (is_gap d a.ymin a.ymax b.ymin b.ymax) t) [
   | inl x ↦ elim (either_true (lt_z d (b.xmin -ℤ a.xmax)) (lt_z d (a.xmin -ℤ b.xmax)) x) [
     | inl l ↦ apart_x a b d o p q i j n (below_of a.xmax b.xmin l)
@@ -66,10 +68,6 @@ apart_points d o a b p q i j n t = elim (either_true (is_gap d a.xmin a.xmax b.x
   where
     below_of : (x y : ℤ) → lt_z d (y -ℤ x) ≡ true → x <ℤ (y -ℤ d)
     below_of x y h = let k : d <ℤ (y -ℤ x) = lt-from_true d (y -ℤ x) h in omega (arith, sums)
-
-is_false : (t : Bool) → (t ≡ true → ⊥) → t ≡ false
-is_false true f = absurd (f refl)
-is_false false f = refl
 
 square_over : (n : ℕ) → pos 0 ≤ℤ (pos n *ℤ pos n)
 square_over n = n*n (pos n) (pos n) (omega (arith, sums)) (omega (arith, sums))

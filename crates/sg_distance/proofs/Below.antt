@@ -2,9 +2,11 @@
 use Rattle.std.proofs.Common.{◌≡◌, arith, refl, subst, Bool, true, false}
 use lib.IntN.{ℤ, pos, ◌+ℤ◌, ◌-ℤ◌, ◌*ℤ◌, neg_ℤ}
 use lib.Signed.{◌<ℤ◌, ◌≤ℤ◌}
-use Rattle.sg_distance.proofs.Integers.{sums, products, nonneg_diff-mul, lt-mul_right, le-cancel_right, lt-cancel_right, mul-neg, neg-mul, cmp, less, same, more}
+use Rattle.sg_algebra.proofs.Ring.{sums, products, nonneg_diff-mul, lt-mul_right, mul-neg, neg-mul}
+use Rattle.sg_algebra.proofs.Cancelling.{le-cancel_right, lt-cancel_right}
+use Rattle.sg_algebra.specs.Orders.{cmp, less, same, more}
 use Rattle.sg_distance.proofs.Signs.{n*n, w*w, p*p}
-use Rattle.sg_distance.specs.Edges.{Below}
+use Rattle.sg_distance.proofs.Nearness.{Below}
 
 pub below-le : (s : Bool) (a b c : ℤ) → Below s a b → b ≤ℤ c → Below s a c
 below-le true a b c h k = omega (arith, sums)

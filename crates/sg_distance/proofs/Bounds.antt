@@ -5,8 +5,10 @@ use mathlib.Core.Bool.{◌&&◌}
 use mathlib.Core.Logic.{inl, inr}
 use lib.IntN.{ℤ, pos, ◌+ℤ◌, ◌-ℤ◌, ◌*ℤ◌, neg_ℤ, *ℤ_comm, zero-*ℤ}
 use lib.Signed.{◌<ℤ◌, ◌≤ℤ◌, le_z}
-use Rattle.sg_distance.proofs.Integers.{sums, products, nonneg_diff-mul, lt-mul_right, le-cancel_right, lt-cancel_right, cmp, less, same, more}
-use Rattle.sg_distance.proofs.Comparisons.{le-from_true, lt-from_true, le-from_false, left_true, right_true, either_true}
+use Rattle.sg_algebra.proofs.Ring.{sums, products, nonneg_diff-mul, lt-mul_right}
+use Rattle.sg_algebra.proofs.Cancelling.{le-cancel_right, lt-cancel_right}
+use Rattle.sg_algebra.specs.Orders.{cmp, less, same, more}
+use Rattle.sg_algebra.proofs.Comparisons.{le-from_true, lt-from_true, le-from_false, left_true, right_true, either_true}
 use Rattle.sg_distance.proofs.Signs.{n*n, p*p}
 use Rattle.sg_distance.proofs.Below.{square-over}
 use Rattle.sg_distance.proofs.Walk.{Even, walk_rings}
@@ -14,8 +16,9 @@ use Rattle.sg_distance.proofs.Reach.{same_parity}
 use Rattle.sg_distance.proofs.Ray.{Pass, pass_of}
 use Rattle.sg_distance.proofs.Whole.{Among, here, there, Odd, odd_of, edges-append, closed_of}
 use Rattle.sg_shape.specs.Plane.{Point, Parts, between, on_edge, is_above, passes_right, crosses_ray, edges_from, edges_of}
-use Rattle.sg_distance.specs.Figure.{xor, parity, Closed, on_any, bones, rings_of, dots, inside_any, has, Sound}
-use Rattle.sg_distance.specs.Edges.{NearPoints}
+use Rattle.sg_segment.specs.Statuses.{xor, parity}
+use Rattle.sg_distance.specs.Figure.{Closed, on_any, bones, rings_of, dots, inside_any, has, Sound}
+use Rattle.sg_distance.proofs.Nearness.{SquareWithin}
 use Rattle.sg_shape.specs.Bounds.{IsInside}
 use Rattle.sg_shape.specs.Grown.{PointIn}
 use Rattle.sg_shape.specs.declared.bounds.Bounds.{Bounds}
@@ -227,7 +230,7 @@ reach d x y w dn wn h = elim (cmp x (d *ℤ w)) [
       omega (arith, sums))
 ]
 
-pub moved_out : (b : Bounds) (d : ℤ) → pos 0 ≤ℤ d → (p q : Point) → PointIn b q → NearPoints false (d *ℤ d) p q →
+pub moved_out : (b : Bounds) (d : ℤ) → pos 0 ≤ℤ d → (p q : Point) → PointIn b q → SquareWithin false (d *ℤ d) p q →
     PointIn (record { xmin = b.xmin -ℤ d; ymin = b.ymin -ℤ d; xmax = b.xmax +ℤ d; ymax = b.ymax +ℤ d }) p
 moved_out b d dn p q i n =
     let w : pos 0 ≤ℤ (pos p.n *ℤ pos q.n) = n*n (pos p.n) (pos q.n) (omega (arith, sums)) (omega (arith, sums)) in
@@ -264,14 +267,14 @@ moved_out b d dn p q i n =
         le-cancel_right px ((hi +ℤ d) *ℤ pn) qn qo (omega (arith, sums))
 
 -- ---- boxes farther apart than the bound hold no near points
-pub apart_x : (a b : Bounds) (d : ℤ) → pos 0 ≤ℤ d → (p q : Point) → PointIn a p → PointIn b q → NearPoints false (d *ℤ d) p q → a.xmax <ℤ (b.xmin -ℤ d) → ⊥
+pub apart_x : (a b : Bounds) (d : ℤ) → pos 0 ≤ℤ d → (p q : Point) → PointIn a p → PointIn b q → SquareWithin false (d *ℤ d) p q → a.xmax <ℤ (b.xmin -ℤ d) → ⊥
 apart_x a b d dn p q i j n h =
     let l : ((b.xmin -ℤ d) *ℤ pos p.n) ≤ℤ p.x = (moved_out b d dn p q j n).left in
     let r : p.x ≤ℤ (a.xmax *ℤ pos p.n) = i.right in
     let k : (a.xmax *ℤ pos p.n) <ℤ ((b.xmin -ℤ d) *ℤ pos p.n) = lt-mul_right a.xmax (b.xmin -ℤ d) (pos p.n) (omega (arith, sums, p.is_over)) h in
     omega (arith, sums)
 
-pub apart_y : (a b : Bounds) (d : ℤ) → pos 0 ≤ℤ d → (p q : Point) → PointIn a p → PointIn b q → NearPoints false (d *ℤ d) p q → a.ymax <ℤ (b.ymin -ℤ d) → ⊥
+pub apart_y : (a b : Bounds) (d : ℤ) → pos 0 ≤ℤ d → (p q : Point) → PointIn a p → PointIn b q → SquareWithin false (d *ℤ d) p q → a.ymax <ℤ (b.ymin -ℤ d) → ⊥
 apart_y a b d dn p q i j n h =
     let l : ((b.ymin -ℤ d) *ℤ pos p.n) ≤ℤ p.y = (moved_out b d dn p q j n).below in
     let r : p.y ≤ℤ (a.ymax *ℤ pos p.n) = i.above in

@@ -3,13 +3,16 @@ use Rattle.std.proofs.Common.{◌≡◌, arith, refl, sym, ap, ◌∙◌, subst,
 use mathlib.Core.Bool.{◌&&◌, ◌||◌}
 use lib.IntN.{ℤ, pos, ◌-ℤ◌, ◌*ℤ◌, zero-*ℤ, *ℤ-zero}
 use lib.Signed.{◌<ℤ◌, ◌≤ℤ◌, le_z}
-use Rattle.sg_distance.proofs.Integers.{sums, Cmp, cmp, less, same, more}
-use Rattle.sg_distance.proofs.Comparisons.{lt-from_true, true-from_le, true-from_lt, both, or_left, or_right}
+use Rattle.sg_algebra.proofs.Ring.{sums}
+use Rattle.sg_algebra.specs.Orders.{Cmp, cmp, less, same, more}
+use Rattle.sg_algebra.proofs.Comparisons.{lt-from_true, true-from_le, true-from_lt, both, or_left, or_right, is_false}
 use Rattle.sg_distance.proofs.Signs.{p*p, m*p}
-use Rattle.sg_distance.proofs.Mix.{line_at, on_from, between-swap}
+use Rattle.sg_distance.proofs.Mix.{line_at, on_from}
+use Rattle.sg_algebra.proofs.Edges.{between-swap}
 use Rattle.sg_distance.proofs.Reach.{holds}
 use Rattle.sg_shape.specs.Plane.{Point, between, on_edge, is_above, passes_right, edges_of}
-use Rattle.sg_distance.specs.Figure.{xor, parity, on_any}
+use Rattle.sg_segment.specs.Statuses.{xor, parity}
+use Rattle.sg_distance.specs.Figure.{on_any}
 use Rattle.sg_shape.specs.declared.spots.Spot.{Spot}
 use Rattle.sg_shape.specs.declared.spots.Edge.{Edge}
 
@@ -110,10 +113,6 @@ boxed c p x0 x1 y0 y1 = by_height (cmp (c.ll.y *ℤ pos p.n) p.y) (cmp p.y (c.ul
         (true-from_lt p.y (c.ur.y *ℤ pos p.n) (let t : c.ur.y *ℤ pos p.n ≡ c.ul.y *ℤ pos p.n = scaled c.top in omega (arith, sums))) (true-from_lt p.y (c.ul.y *ℤ pos p.n) b)
         right_passes left_fails)
       where
-        is_false : (s : Bool) → (s ≡ true → ⊥) → s ≡ false
-        is_false true f = absurd (f refl)
-        is_false false f = refl
-
         not_above : (s : Spot) → (s.y *ℤ pos p.n) ≤ℤ p.y → is_above s p ≡ false
         not_above s h = is_false (is_above s p) (λ t. let k : p.y <ℤ (s.y *ℤ pos p.n) = lt-from_true p.y (s.y *ℤ pos p.n) t in omega (arith, sums))
 

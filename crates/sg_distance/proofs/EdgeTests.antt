@@ -2,22 +2,23 @@
 use Rattle.std.proofs.Common.{◌≡◌, arith, refl, sym, ap, Bool, true, false, not, List, [], ◌∷◌}
 use mathlib.Core.Bool.{◌&&◌, ◌||◌}
 use mathlib.Core.Logic.{◌⊎◌, inl, inr}
-use lib.IntN.{ℤ, pos, ◌*ℤ◌}
+use lib.IntN.{ℤ, pos, ◌-ℤ◌, ◌*ℤ◌, *ℤ_comm}
 use lib.Signed.{◌<ℤ◌, lt_z}
 use Rattle.std.specs.List.{list_any}
-use Rattle.sg_distance.proofs.Integers.{sums}
-use Rattle.sg_distance.proofs.Comparisons.{le-from_true, true-from_le, lt-from_true, true-from_lt, left_true, right_true, both, either_true, or_left, or_right}
+use Rattle.sg_algebra.proofs.Ring.{sums, times_one}
+use Rattle.sg_algebra.proofs.Comparisons.{le-from_true, true-from_le, lt-from_true, true-from_lt, left_true, right_true, both, either_true, or_left, or_right}
 use Rattle.sg_distance.proofs.Below.{below-at}
-use Rattle.sg_distance.proofs.Mix.{times_one}
 use Rattle.sg_distance.proofs.Foot.{NearEdge, near_from, near_to, near_foot, AtFoot, along_of, across_of, square}
 use Rattle.sg_distance.proofs.Cross.{Crosses, EdgesNear, by_a, by_b, by_c, by_d, crossed, edges_near}
 use Rattle.sg_distance.proofs.Found.{Both, edges_found}
 use Rattle.sg_distance.proofs.Whole.{Shown, by_bones, by_first, by_second, encloses, near_shown, shown_near}
 use Rattle.sg_shape.specs.Plane.{Point, Parts, on_edge}
-use Rattle.sg_distance.specs.Figure.{at, on_any, bones, chains, Near, Sound}
+use Rattle.sg_segment.specs.Sides.{point_at, cross}
+use Rattle.sg_distance.specs.Figure.{on_any, bones, chains, Sound}
+use Rattle.sg_distance.proofs.Nearness.{NearByEdges, Below, SquareWithin}
 use Rattle.sg_shape.specs.declared.spots.Spot.{Spot}
 use Rattle.sg_shape.specs.declared.spots.Edge.{Edge}
-use Rattle.sg_distance.specs.Edges.{Below, below, NearPoints, cross_at, dot_at, gap_at, foot_test, spot_test, one_side, two_sides, cross_test, edges_test}
+use Rattle.sg_distance.specs.Edges.{below, dot_at, gap_at, foot_test, spot_test, one_side, two_sides, cross_test, edges_test}
 
 pub below_true : (s : Bool) (a b : ℤ) → below s a b ≡ true → Below s a b
 below_true true a b h = lt-from_true a b h
@@ -28,49 +29,49 @@ true_below true a b h = true-from_lt a b h
 true_below false a b h = true-from_le a b h
 
 -- at a spot
-across-spot : (a b c : Spot) → across_of a b (at c) ≡ cross_at a b c
-across-spot a b c = rw (times_one a.x, times_one a.y) refl
+across-spot : (a b c : Spot) → across_of a b (point_at c) ≡ cross a b c
+across-spot a b c = rw (times_one a.x, times_one a.y, *ℤ_comm (c.y -ℤ a.y) (b.x -ℤ a.x), *ℤ_comm (c.x -ℤ a.x) (b.y -ℤ a.y)) refl
 
-along-spot : (a b c : Spot) → along_of a b (at c) ≡ dot_at a b c
+along-spot : (a b c : Spot) → along_of a b (point_at c) ≡ dot_at a b c
 along-spot a b c = rw (times_one a.x, times_one a.y) refl
 
-near-spot : (strict : Bool) (D : ℤ) (a c : Spot) → NearPoints strict D (at c) (at a) → Below strict (gap_at a c) D
+near-spot : (strict : Bool) (D : ℤ) (a c : Spot) → SquareWithin strict D (point_at c) (point_at a) → Below strict (gap_at a c) D
 near-spot strict D a c h = rw (times_one c.x, times_one c.y, times_one a.x, times_one a.y, times_one D) at h
 
-spot-near : (strict : Bool) (D : ℤ) (a c : Spot) → Below strict (gap_at a c) D → NearPoints strict D (at c) (at a)
+spot-near : (strict : Bool) (D : ℤ) (a c : Spot) → Below strict (gap_at a c) D → SquareWithin strict D (point_at c) (point_at a)
 spot-near strict D a c h = rw (times_one c.x, times_one c.y, times_one a.x, times_one a.y, times_one D) h
 
-foot-spot : (strict : Bool) (D : ℤ) (c : Spot) (e : Edge) → AtFoot strict D (at c) e.from e.to → foot_test strict D c e ≡ true
+foot-spot : (strict : Bool) (D : ℤ) (c : Spot) (e : Edge) → AtFoot strict D (point_at c) e.from e.to → foot_test strict D c e ≡ true
 foot-spot strict D c e f =
-    let h : pos 0 <ℤ along_of e.from e.to (at c) = f.after in
-    let k : along_of e.from e.to (at c) <ℤ (square e.from e.to *ℤ pos 1) = f.before in
-    let l : along_of e.from e.to (at c) ≡ dot_at e.from e.to c = along-spot e.from e.to c in
+    let h : pos 0 <ℤ along_of e.from e.to (point_at c) = f.after in
+    let k : along_of e.from e.to (point_at c) <ℤ (square e.from e.to *ℤ pos 1) = f.before in
+    let l : along_of e.from e.to (point_at c) ≡ dot_at e.from e.to c = along-spot e.from e.to c in
     let q : square e.from e.to *ℤ pos 1 ≡ gap_at e.from e.to = times_one (square e.from e.to) in
     both (lt_z (pos 0) (dot_at e.from e.to c)) _ (true-from_lt (pos 0) (dot_at e.from e.to c) (omega (arith, sums)))
     (both (lt_z (dot_at e.from e.to c) (gap_at e.from e.to)) _ (true-from_lt (dot_at e.from e.to c) (gap_at e.from e.to) (omega (arith, sums)))
-    (true_below strict (cross_at e.from e.to c *ℤ cross_at e.from e.to c) (D *ℤ gap_at e.from e.to)
+    (true_below strict (cross e.from e.to c *ℤ cross e.from e.to c) (D *ℤ gap_at e.from e.to)
     (below-at strict _ _ _ _ (ap (λ (v : ℤ). v *ℤ v) (across-spot e.from e.to c)) (ap (λ (v : ℤ). v *ℤ gap_at e.from e.to) (times_one D)) f.line)))
 
-spot-foot : (strict : Bool) (D : ℤ) (c : Spot) (e : Edge) → foot_test strict D c e ≡ true → AtFoot strict D (at c) e.from e.to
+spot-foot : (strict : Bool) (D : ℤ) (c : Spot) (e : Edge) → foot_test strict D c e ≡ true → AtFoot strict D (point_at c) e.from e.to
 spot-foot strict D c e t =
-    let h : pos 0 <ℤ dot_at e.from e.to c = lt-from_true (pos 0) (dot_at e.from e.to c) (left_true (lt_z (pos 0) (dot_at e.from e.to c)) (lt_z (dot_at e.from e.to c) (gap_at e.from e.to) && below strict (cross_at e.from e.to c *ℤ cross_at e.from e.to c) (D *ℤ gap_at e.from e.to)) t) in
-    let r : (lt_z (dot_at e.from e.to c) (gap_at e.from e.to) && below strict (cross_at e.from e.to c *ℤ cross_at e.from e.to c) (D *ℤ gap_at e.from e.to)) ≡ true = right_true (lt_z (pos 0) (dot_at e.from e.to c)) (lt_z (dot_at e.from e.to c) (gap_at e.from e.to) && below strict (cross_at e.from e.to c *ℤ cross_at e.from e.to c) (D *ℤ gap_at e.from e.to)) t in
-    let k : dot_at e.from e.to c <ℤ gap_at e.from e.to = lt-from_true (dot_at e.from e.to c) (gap_at e.from e.to) (left_true (lt_z (dot_at e.from e.to c) (gap_at e.from e.to)) (below strict (cross_at e.from e.to c *ℤ cross_at e.from e.to c) (D *ℤ gap_at e.from e.to)) r) in
-    let l : along_of e.from e.to (at c) ≡ dot_at e.from e.to c = along-spot e.from e.to c in
+    let h : pos 0 <ℤ dot_at e.from e.to c = lt-from_true (pos 0) (dot_at e.from e.to c) (left_true (lt_z (pos 0) (dot_at e.from e.to c)) (lt_z (dot_at e.from e.to c) (gap_at e.from e.to) && below strict (cross e.from e.to c *ℤ cross e.from e.to c) (D *ℤ gap_at e.from e.to)) t) in
+    let r : (lt_z (dot_at e.from e.to c) (gap_at e.from e.to) && below strict (cross e.from e.to c *ℤ cross e.from e.to c) (D *ℤ gap_at e.from e.to)) ≡ true = right_true (lt_z (pos 0) (dot_at e.from e.to c)) (lt_z (dot_at e.from e.to c) (gap_at e.from e.to) && below strict (cross e.from e.to c *ℤ cross e.from e.to c) (D *ℤ gap_at e.from e.to)) t in
+    let k : dot_at e.from e.to c <ℤ gap_at e.from e.to = lt-from_true (dot_at e.from e.to c) (gap_at e.from e.to) (left_true (lt_z (dot_at e.from e.to c) (gap_at e.from e.to)) (below strict (cross e.from e.to c *ℤ cross e.from e.to c) (D *ℤ gap_at e.from e.to)) r) in
+    let l : along_of e.from e.to (point_at c) ≡ dot_at e.from e.to c = along-spot e.from e.to c in
     let q : square e.from e.to *ℤ pos 1 ≡ gap_at e.from e.to = times_one (square e.from e.to) in
     record {
       after = omega (arith, sums);
       before = omega (arith, sums);
       line = below-at strict _ _ _ _ (ap (λ (v : ℤ). v *ℤ v) (sym (across-spot e.from e.to c))) (ap (λ (v : ℤ). v *ℤ gap_at e.from e.to) (sym (times_one D)))
-          (below_true strict (cross_at e.from e.to c *ℤ cross_at e.from e.to c) (D *ℤ gap_at e.from e.to) (right_true (lt_z (dot_at e.from e.to c) (gap_at e.from e.to)) (below strict (cross_at e.from e.to c *ℤ cross_at e.from e.to c) (D *ℤ gap_at e.from e.to)) r));
+          (below_true strict (cross e.from e.to c *ℤ cross e.from e.to c) (D *ℤ gap_at e.from e.to) (right_true (lt_z (dot_at e.from e.to c) (gap_at e.from e.to)) (below strict (cross e.from e.to c *ℤ cross e.from e.to c) (D *ℤ gap_at e.from e.to)) r));
     }
 
-spot_passes : (strict : Bool) (D : ℤ) (c : Spot) (e : Edge) → NearEdge strict D (at c) e.from e.to → spot_test strict D c e ≡ true
+spot_passes : (strict : Bool) (D : ℤ) (c : Spot) (e : Edge) → NearEdge strict D (point_at c) e.from e.to → spot_test strict D c e ≡ true
 spot_passes strict D c e (near_from h) = or_left (below strict (gap_at e.from c) D) _ (true_below strict (gap_at e.from c) D (near-spot strict D e.from c h))
 spot_passes strict D c e (near_to h) = or_right (below strict (gap_at e.from c) D) _ (or_left (below strict (gap_at e.to c) D) _ (true_below strict (gap_at e.to c) D (near-spot strict D e.to c h)))
 spot_passes strict D c e (near_foot f) = or_right (below strict (gap_at e.from c) D) _ (or_right (below strict (gap_at e.to c) D) (foot_test strict D c e) (foot-spot strict D c e f))
 
-spot_means : (strict : Bool) (D : ℤ) (c : Spot) (e : Edge) → spot_test strict D c e ≡ true → NearEdge strict D (at c) e.from e.to
+spot_means : (strict : Bool) (D : ℤ) (c : Spot) (e : Edge) → spot_test strict D c e ≡ true → NearEdge strict D (point_at c) e.from e.to
 spot_means strict D c e t = elim (either_true (below strict (gap_at e.from c) D) (below strict (gap_at e.to c) D || foot_test strict D c e) t) [
   | inl l ↦ near_from (spot-near strict D e.from c (below_true strict (gap_at e.from c) D l))
   | inr r ↦ elim (either_true (below strict (gap_at e.to c) D) (foot_test strict D c e) r) [
@@ -96,11 +97,11 @@ clear_true false e f = cc
 
 cross_passes : (e f : Edge) → Crosses e.from e.to f.from f.to → cross_test e f ≡ true
 cross_passes e f x =
-    both (two_sides (cross_at e.from e.to f.from) (cross_at e.from e.to f.to)) (not (one_side (cross_at f.from f.to e.from) (cross_at f.from f.to e.to)))
-    (sides (across_of e.from e.to (at f.from)) (across_of e.from e.to (at f.to)) (cross_at e.from e.to f.from) (cross_at e.from e.to f.to) (across-spot e.from e.to f.from) (across-spot e.from e.to f.to) x.apart)
-    (side_clear (cross_at f.from f.to e.from) (cross_at f.from f.to e.to)
-    (λ l m. let u : across_of f.from f.to (at e.from) ≡ cross_at f.from f.to e.from = across-spot f.from f.to e.from in let v : across_of f.from f.to (at e.to) ≡ cross_at f.from f.to e.to = across-spot f.from f.to e.to in x.not_left (omega (arith, sums)) (omega (arith, sums)))
-    (λ l m. let u : across_of f.from f.to (at e.from) ≡ cross_at f.from f.to e.from = across-spot f.from f.to e.from in let v : across_of f.from f.to (at e.to) ≡ cross_at f.from f.to e.to = across-spot f.from f.to e.to in x.not_right (omega (arith, sums)) (omega (arith, sums))))
+    both (two_sides (cross e.from e.to f.from) (cross e.from e.to f.to)) (not (one_side (cross f.from f.to e.from) (cross f.from f.to e.to)))
+    (sides (across_of e.from e.to (point_at f.from)) (across_of e.from e.to (point_at f.to)) (cross e.from e.to f.from) (cross e.from e.to f.to) (across-spot e.from e.to f.from) (across-spot e.from e.to f.to) x.apart)
+    (side_clear (cross f.from f.to e.from) (cross f.from f.to e.to)
+    (λ l m. let u : across_of f.from f.to (point_at e.from) ≡ cross f.from f.to e.from = across-spot f.from f.to e.from in let v : across_of f.from f.to (point_at e.to) ≡ cross f.from f.to e.to = across-spot f.from f.to e.to in x.not_left (omega (arith, sums)) (omega (arith, sums)))
+    (λ l m. let u : across_of f.from f.to (point_at e.from) ≡ cross f.from f.to e.from = across-spot f.from f.to e.from in let v : across_of f.from f.to (point_at e.to) ≡ cross f.from f.to e.to = across-spot f.from f.to e.to in x.not_right (omega (arith, sums)) (omega (arith, sums))))
   where
     sides : (c d x y : ℤ) → c ≡ x → d ≡ y → ((c <ℤ pos 0) × (pos 0 <ℤ d)) ⊎ ((d <ℤ pos 0) × (pos 0 <ℤ c)) → two_sides x y ≡ true
     sides c d x y ex ey (inl p) =
@@ -112,16 +113,16 @@ cross_passes e f x =
 
 cross_means : (e f : Edge) → cross_test e f ≡ true → Crosses e.from e.to f.from f.to
 cross_means e f t =
-    let s : two_sides (cross_at e.from e.to f.from) (cross_at e.from e.to f.to) ≡ true = left_true (two_sides (cross_at e.from e.to f.from) (cross_at e.from e.to f.to)) (not (one_side (cross_at f.from f.to e.from) (cross_at f.from f.to e.to))) t in
-    let n : not (one_side (cross_at f.from f.to e.from) (cross_at f.from f.to e.to)) ≡ true = right_true (two_sides (cross_at e.from e.to f.from) (cross_at e.from e.to f.to)) (not (one_side (cross_at f.from f.to e.from) (cross_at f.from f.to e.to))) t in
-    let u : across_of f.from f.to (at e.from) ≡ cross_at f.from f.to e.from = across-spot f.from f.to e.from in
-    let v : across_of f.from f.to (at e.to) ≡ cross_at f.from f.to e.to = across-spot f.from f.to e.to in
+    let s : two_sides (cross e.from e.to f.from) (cross e.from e.to f.to) ≡ true = left_true (two_sides (cross e.from e.to f.from) (cross e.from e.to f.to)) (not (one_side (cross f.from f.to e.from) (cross f.from f.to e.to))) t in
+    let n : not (one_side (cross f.from f.to e.from) (cross f.from f.to e.to)) ≡ true = right_true (two_sides (cross e.from e.to f.from) (cross e.from e.to f.to)) (not (one_side (cross f.from f.to e.from) (cross f.from f.to e.to))) t in
+    let u : across_of f.from f.to (point_at e.from) ≡ cross f.from f.to e.from = across-spot f.from f.to e.from in
+    let v : across_of f.from f.to (point_at e.to) ≡ cross f.from f.to e.to = across-spot f.from f.to e.to in
     record {
-      apart = sides (across_of e.from e.to (at f.from)) (across_of e.from e.to (at f.to)) (cross_at e.from e.to f.from) (cross_at e.from e.to f.to) (across-spot e.from e.to f.from) (across-spot e.from e.to f.to) s;
-      not_left = λ l m. clear_true _ n (or_left (lt_z (pos 0) (cross_at f.from f.to e.from) && lt_z (pos 0) (cross_at f.from f.to e.to)) (lt_z (cross_at f.from f.to e.from) (pos 0) && lt_z (cross_at f.from f.to e.to) (pos 0))
-          (both (lt_z (pos 0) (cross_at f.from f.to e.from)) (lt_z (pos 0) (cross_at f.from f.to e.to)) (true-from_lt (pos 0) (cross_at f.from f.to e.from) (omega (arith, sums))) (true-from_lt (pos 0) (cross_at f.from f.to e.to) (omega (arith, sums)))));
-      not_right = λ l m. clear_true _ n (or_right (lt_z (pos 0) (cross_at f.from f.to e.from) && lt_z (pos 0) (cross_at f.from f.to e.to)) (lt_z (cross_at f.from f.to e.from) (pos 0) && lt_z (cross_at f.from f.to e.to) (pos 0))
-          (both (lt_z (cross_at f.from f.to e.from) (pos 0)) (lt_z (cross_at f.from f.to e.to) (pos 0)) (true-from_lt (cross_at f.from f.to e.from) (pos 0) (omega (arith, sums))) (true-from_lt (cross_at f.from f.to e.to) (pos 0) (omega (arith, sums)))));
+      apart = sides (across_of e.from e.to (point_at f.from)) (across_of e.from e.to (point_at f.to)) (cross e.from e.to f.from) (cross e.from e.to f.to) (across-spot e.from e.to f.from) (across-spot e.from e.to f.to) s;
+      not_left = λ l m. clear_true _ n (or_left (lt_z (pos 0) (cross f.from f.to e.from) && lt_z (pos 0) (cross f.from f.to e.to)) (lt_z (cross f.from f.to e.from) (pos 0) && lt_z (cross f.from f.to e.to) (pos 0))
+          (both (lt_z (pos 0) (cross f.from f.to e.from)) (lt_z (pos 0) (cross f.from f.to e.to)) (true-from_lt (pos 0) (cross f.from f.to e.from) (omega (arith, sums))) (true-from_lt (pos 0) (cross f.from f.to e.to) (omega (arith, sums)))));
+      not_right = λ l m. clear_true _ n (or_right (lt_z (pos 0) (cross f.from f.to e.from) && lt_z (pos 0) (cross f.from f.to e.to)) (lt_z (cross f.from f.to e.from) (pos 0) && lt_z (cross f.from f.to e.to) (pos 0))
+          (both (lt_z (cross f.from f.to e.from) (pos 0)) (lt_z (cross f.from f.to e.to) (pos 0)) (true-from_lt (cross f.from f.to e.from) (pos 0) (omega (arith, sums))) (true-from_lt (cross f.from f.to e.to) (pos 0) (omega (arith, sums)))));
     }
   where
     sides : (c d x y : ℤ) → c ≡ x → d ≡ y → two_sides x y ≡ true → ((c <ℤ pos 0) × (pos 0 <ℤ d)) ⊎ ((d <ℤ pos 0) × (pos 0 <ℤ c))
@@ -160,14 +161,14 @@ edges_mean strict D e f t = elim (either_true (cross_test e f) (spot_test strict
 abbrev pub bones_test : Bool → ℤ → List Edge → List Edge → Bool
 bones_test strict D es fs = list_any (λ e. list_any (λ f. edges_test strict D e f) fs) es
 
-any_second : (strict : Bool) (D : ℤ) (e : Edge) (fs : List Edge) (z w : Point) → on_edge e z ≡ true → on_any fs w ≡ true → NearPoints strict D z w → list_any (λ f. edges_test strict D e f) fs ≡ true
+any_second : (strict : Bool) (D : ℤ) (e : Edge) (fs : List Edge) (z w : Point) → on_edge e z ≡ true → on_any fs w ≡ true → SquareWithin strict D z w → list_any (λ f. edges_test strict D e f) fs ≡ true
 any_second strict D e [] z w oz ow n = absurd (cc)
 any_second strict D e (f ∷ fs) z w oz ow n = elim (either_true (on_edge f w) (on_any fs w) ow) [
   | inl l ↦ or_left (edges_test strict D e f) (list_any (λ g. edges_test strict D e g) fs) (edges_pass strict D e f (edges_near strict D e.from e.to f.from f.to z w oz l n))
   | inr l ↦ or_right (edges_test strict D e f) (list_any (λ g. edges_test strict D e g) fs) (any_second strict D e fs z w oz l n)
 ]
 
-pub bones_pass : (strict : Bool) (D : ℤ) (es fs : List Edge) (z w : Point) → on_any es z ≡ true → on_any fs w ≡ true → NearPoints strict D z w → bones_test strict D es fs ≡ true
+pub bones_pass : (strict : Bool) (D : ℤ) (es fs : List Edge) (z w : Point) → on_any es z ≡ true → on_any fs w ≡ true → SquareWithin strict D z w → bones_test strict D es fs ≡ true
 bones_pass strict D [] fs z w oz ow n = absurd (cc)
 bones_pass strict D (e ∷ es) fs z w oz ow n = elim (either_true (on_edge e z) (on_any es z) oz) [
   | inl l ↦ or_left (list_any (λ f. edges_test strict D e f) fs) (bones_test strict D es fs) (any_second strict D e fs z w l ow n)
@@ -179,7 +180,7 @@ pub record Pair (strict : Bool) (D : ℤ) (es fs : List Edge) : Type 0 where
   pub w : Point
   pub first : on_any es z ≡ true
   pub second : on_any fs w ≡ true
-  pub near : NearPoints strict D z w
+  pub near : SquareWithin strict D z w
 
 second_mean : (strict : Bool) (D : ℤ) (e : Edge) (fs : List Edge) → Below strict (pos 0) D → list_any (λ f. edges_test strict D e f) fs ≡ true → Pair strict D (e ∷ []) fs
 second_mean strict D e [] o t = absurd (cc)
@@ -211,7 +212,7 @@ bones_mean strict D (e ∷ es) fs o t = elim (either_true (list_any (λ f. edges
 abbrev pub near_test : Bool → ℤ → Parts → Parts → Bool
 near_test strict D a b = below strict (pos 0) D && (bones_test strict D (bones a) (bones b) || (encloses a.areas (chains b) || encloses b.areas (chains a)))
 
-pub near_tested : (strict : Bool) (D : ℤ) (a b : Parts) → Sound a → Sound b → Below strict (pos 0) D → Near strict D a b → near_test strict D a b ≡ true
+pub near_tested : (strict : Bool) (D : ℤ) (a b : Parts) → Sound a → Sound b → Below strict (pos 0) D → NearByEdges strict D a b → near_test strict D a b ≡ true
 near_tested strict D a b sa sb o n = both (below strict (pos 0) D) _ (true_below strict (pos 0) D o) (by_shown (near_shown strict D a b sa sb n))
   where
     by_shown : Shown strict D a b → (bones_test strict D (bones a) (bones b) || (encloses a.areas (chains b) || encloses b.areas (chains a))) ≡ true
@@ -219,7 +220,7 @@ near_tested strict D a b sa sb o n = both (below strict (pos 0) D) _ (true_below
     by_shown (by_first h) = or_right (bones_test strict D (bones a) (bones b)) _ (or_left (encloses a.areas (chains b)) (encloses b.areas (chains a)) h)
     by_shown (by_second h) = or_right (bones_test strict D (bones a) (bones b)) _ (or_right (encloses a.areas (chains b)) (encloses b.areas (chains a)) h)
 
-pub tested_near : (strict : Bool) (D : ℤ) (a b : Parts) → Sound a → Sound b → near_test strict D a b ≡ true → Near strict D a b
+pub tested_near : (strict : Bool) (D : ℤ) (a b : Parts) → Sound a → Sound b → near_test strict D a b ≡ true → NearByEdges strict D a b
 tested_near strict D a b sa sb t =
     let o : Below strict (pos 0) D = below_true strict (pos 0) D (left_true (below strict (pos 0) D) (bones_test strict D (bones a) (bones b) || (encloses a.areas (chains b) || encloses b.areas (chains a))) t) in
     shown_near strict D a b sa sb o (shown o (right_true (below strict (pos 0) D) (bones_test strict D (bones a) (bones b) || (encloses a.areas (chains b) || encloses b.areas (chains a))) t))

@@ -2,14 +2,15 @@
 use Rattle.std.proofs.Common.{◌≡◌, arith, refl, ap, ◌∙◌, Bool}
 use lib.IntN.{ℤ, pos, ◌+ℤ◌, ◌-ℤ◌, ◌*ℤ◌}
 use lib.Signed.{◌<ℤ◌, ◌≤ℤ◌}
-use Rattle.sg_distance.proofs.Integers.{sums, products, Cmp, cmp, less, same, more}
+use Rattle.sg_algebra.proofs.Ring.{sums, products, times_one}
+use Rattle.sg_algebra.specs.Orders.{Cmp, cmp, less, same, more}
 use Rattle.sg_distance.proofs.Signs.{n*n, p*p, n*w, p/p}
 use Rattle.sg_distance.proofs.Below.{le-below, below-mul, below-cancel, below-at, square-over}
-use Rattle.sg_distance.proofs.Mix.{Along, times_one}
+use Rattle.sg_distance.proofs.Mix.{Along}
 use Rattle.sg_shape.specs.Plane.{Point}
-use Rattle.sg_distance.specs.Figure.{at}
+use Rattle.sg_segment.specs.Sides.{point_at}
 use Rattle.sg_shape.specs.declared.spots.Spot.{Spot}
-use Rattle.sg_distance.specs.Edges.{Below, NearAt, NearPoints, along_at, across_at, square_of}
+use Rattle.sg_distance.proofs.Nearness.{Below, SquareWithinAt, SquareWithin, along_at, across_at, square_of}
 
 -- (x, y) and (ex, ey): the squares of along and across are the product of the squares
 pub two_squares : (x y ex ey : ℤ) →
@@ -68,17 +69,17 @@ scale_bound : (D p w k : ℤ) → D *ℤ ((p *ℤ w) *ℤ (p *ℤ w)) *ℤ (k *�
 scale_bound D p w k = simp products
 
 spot_near_at : (strict : Bool) (D x y n ux uy : ℤ) →
-    Below strict ((x -ℤ ux *ℤ n) *ℤ (x -ℤ ux *ℤ n) +ℤ (y -ℤ uy *ℤ n) *ℤ (y -ℤ uy *ℤ n)) (D *ℤ (n *ℤ n)) → NearAt strict D x y n ux uy (pos 1)
+    Below strict ((x -ℤ ux *ℤ n) *ℤ (x -ℤ ux *ℤ n) +ℤ (y -ℤ uy *ℤ n) *ℤ (y -ℤ uy *ℤ n)) (D *ℤ (n *ℤ n)) → SquareWithinAt strict D x y n ux uy (pos 1)
 spot_near_at strict D x y n ux uy h = rw (times_one x, times_one y, times_one n) h
 
-pub near_spot_at : (strict : Bool) (D x y n ux uy : ℤ) → NearAt strict D x y n ux uy (pos 1) →
+pub near_spot_at : (strict : Bool) (D x y n ux uy : ℤ) → SquareWithinAt strict D x y n ux uy (pos 1) →
     Below strict ((x -ℤ ux *ℤ n) *ℤ (x -ℤ ux *ℤ n) +ℤ (y -ℤ uy *ℤ n) *ℤ (y -ℤ uy *ℤ n)) (D *ℤ (n *ℤ n))
 near_spot_at strict D x y n ux uy h = rw (times_one x, times_one y, times_one n) at h
 
 -- a spot's near point, by relative numbers
 pub spot_near : (strict : Bool) (D : ℤ) (p : Point) (u : Spot) →
     Below strict ((p.x -ℤ u.x *ℤ pos p.n) *ℤ (p.x -ℤ u.x *ℤ pos p.n) +ℤ (p.y -ℤ u.y *ℤ pos p.n) *ℤ (p.y -ℤ u.y *ℤ pos p.n)) (D *ℤ (pos p.n *ℤ pos p.n)) →
-    NearPoints strict D p (at u)
+    SquareWithin strict D p (point_at u)
 spot_near strict D p u h = spot_near_at strict D p.x p.y (pos p.n) u.x u.y h
 
 abbrev rel_x : Spot → Point → ℤ
@@ -88,7 +89,7 @@ abbrev rel_y : Spot → Point → ℤ
 rel_y u p = p.y -ℤ u.y *ℤ pos p.n
 
 -- p near a point of the edge, in relative numbers
-near_scaled : (strict : Bool) (D : ℤ) (p w : Point) (u v : Spot) (a : Along (at u) (at v) w) → NearPoints strict D p w →
+near_scaled : (strict : Bool) (D : ℤ) (p w : Point) (u v : Spot) (a : Along (point_at u) (point_at v) w) → SquareWithin strict D p w →
     Below strict
     (((a.k *ℤ pos w.n) *ℤ rel_x u p -ℤ a.t *ℤ (v.x -ℤ u.x) *ℤ pos p.n) *ℤ ((a.k *ℤ pos w.n) *ℤ rel_x u p -ℤ a.t *ℤ (v.x -ℤ u.x) *ℤ pos p.n)
     +ℤ ((a.k *ℤ pos w.n) *ℤ rel_y u p -ℤ a.t *ℤ (v.y -ℤ u.y) *ℤ pos p.n) *ℤ ((a.k *ℤ pos w.n) *ℤ rel_y u p -ℤ a.t *ℤ (v.y -ℤ u.y) *ℤ pos p.n))
@@ -116,7 +117,7 @@ across_of u v p = across_at u.x u.y v.x v.y p.x p.y (pos p.n)
 abbrev pub square : Spot → Spot → ℤ
 square u v = square_of u.x u.y v.x v.y
 
-pub foot_start : (strict : Bool) (D : ℤ) (p w : Point) (u v : Spot) → Along (at u) (at v) w → along_of u v p ≤ℤ pos 0 → NearPoints strict D p w → NearPoints strict D p (at u)
+pub foot_start : (strict : Bool) (D : ℤ) (p w : Point) (u v : Spot) → Along (point_at u) (point_at v) w → along_of u v p ≤ℤ pos 0 → SquareWithin strict D p w → SquareWithin strict D p (point_at u)
 foot_start strict D p w u v a h q =
     let m : pos 0 <ℤ (a.k *ℤ pos w.n) = p*p a.k (pos w.n) a.k_over (omega (arith, sums, w.is_over)) in
     let b : ((rel_x u p *ℤ rel_x u p +ℤ rel_y u p *ℤ rel_y u p) *ℤ ((a.k *ℤ pos w.n) *ℤ (a.k *ℤ pos w.n))) ≤ℤ
@@ -127,7 +128,7 @@ foot_start strict D p w u v a h q =
     (below-cancel strict _ _ ((a.k *ℤ pos w.n) *ℤ (a.k *ℤ pos w.n)) (p*p (a.k *ℤ pos w.n) (a.k *ℤ pos w.n) m m)
     (le-below strict _ _ _ b (near_scaled strict D p w u v a q)))
 
-pub foot_line : (strict : Bool) (D : ℤ) (p w : Point) (u v : Spot) → Along (at u) (at v) w → pos 0 <ℤ square u v → NearPoints strict D p w →
+pub foot_line : (strict : Bool) (D : ℤ) (p w : Point) (u v : Spot) → Along (point_at u) (point_at v) w → pos 0 <ℤ square u v → SquareWithin strict D p w →
     Below strict (across_of u v p *ℤ across_of u v p) ((D *ℤ (pos p.n *ℤ pos p.n)) *ℤ square u v)
 foot_line strict D p w u v a l q =
     let m : pos 0 <ℤ (a.k *ℤ pos w.n) = p*p a.k (pos w.n) a.k_over (omega (arith, sums, w.is_over)) in
@@ -145,7 +146,7 @@ along-turned u v p = by_numbers u.x u.y v.x v.y p.x p.y (pos p.n)
     by_numbers : (ax ay bx by x y n : ℤ) → along_at bx by ax ay x y n ≡ square_of ax ay bx by *ℤ n -ℤ along_at ax ay bx by x y n
     by_numbers ax ay bx by x y n = simp products (omega (arith, sums))
 
-pub turn : (u v : Spot) (w : Point) → Along (at u) (at v) w → Along (at v) (at u) w
+pub turn : (u v : Spot) (w : Point) → Along (point_at u) (point_at v) w → Along (point_at v) (point_at u) w
 turn u v w a = record {
   k = a.k;
   s = a.t;
@@ -166,11 +167,11 @@ pub record AtFoot (strict : Bool) (D : ℤ) (p : Point) (u v : Spot) : Type 0 wh
 
 -- p near an edge is near an end or its foot
 pub data NearEdge (strict : Bool) (D : ℤ) (p : Point) (u v : Spot) : Type 0 where
-  near_from : NearPoints strict D p (at u) → NearEdge strict D p u v
-  near_to : NearPoints strict D p (at v) → NearEdge strict D p u v
+  near_from : SquareWithin strict D p (point_at u) → NearEdge strict D p u v
+  near_to : SquareWithin strict D p (point_at v) → NearEdge strict D p u v
   near_foot : AtFoot strict D p u v → NearEdge strict D p u v
 
-pub near_edge : (strict : Bool) (D : ℤ) (p w : Point) (u v : Spot) → Along (at u) (at v) w → NearPoints strict D p w → NearEdge strict D p u v
+pub near_edge : (strict : Bool) (D : ℤ) (p w : Point) (u v : Spot) → Along (point_at u) (point_at v) w → SquareWithin strict D p w → NearEdge strict D p u v
 near_edge strict D p w u v a q = by_start (cmp (pos 0) (along_of u v p))
   where
     pn : pos 0 <ℤ pos p.n

@@ -3,25 +3,26 @@ use Rattle.std.proofs.Common.{◌≡◌, arith, refl, sym, ◌∙◌, subst, Boo
 use mathlib.Core.Logic.{◌⊎◌, inl, inr}
 use lib.IntN.{ℤ, pos, ◌+ℤ◌, ◌-ℤ◌, ◌*ℤ◌, neg_ℤ, zero-*ℤ}
 use lib.Signed.{◌<ℤ◌, ◌≤ℤ◌}
-use Rattle.sg_distance.proofs.Integers.{sums, products, mul-neg, cmp, less, same, more}
+use Rattle.sg_algebra.proofs.Ring.{sums, products, mul-neg, times_one}
+use Rattle.sg_algebra.specs.Orders.{cmp, less, same, more}
 use Rattle.sg_distance.proofs.Signs.{p*p, p/p, Alike, over, under}
 use Rattle.sg_distance.proofs.Below.{le-below, below-mul, below-cancel, below-at, square-over}
-use Rattle.sg_distance.proofs.Mix.{Along, times_one, one_times, along-on_edge, on-from, on-to}
+use Rattle.sg_distance.proofs.Mix.{Along, one_times, along-on_edge, on-from, on-to}
 use Rattle.sg_distance.proofs.Quad.{weights, Weights, Crossing, crossing_of, side_at}
 use Rattle.sg_distance.proofs.Foot.{NearEdge, near_from, near_to, near_foot, AtFoot, along_of, across_of, square}
 use Rattle.sg_distance.proofs.Pairs.{near-turned, mixed}
 use Rattle.sg_distance.proofs.Cross.{Crosses, EdgesNear, by_a, by_b, by_c, by_d, crossed}
 use Rattle.sg_shape.specs.Plane.{Point, on_edge}
-use Rattle.sg_distance.specs.Figure.{at}
+use Rattle.sg_segment.specs.Sides.{point_at}
 use Rattle.sg_shape.specs.declared.spots.Spot.{Spot}
 use Rattle.sg_shape.specs.declared.spots.Edge.{Edge}
-use Rattle.sg_distance.specs.Edges.{Below, NearAt, NearPoints, along_at, across_at, square_of}
+use Rattle.sg_distance.proofs.Nearness.{Below, SquareWithinAt, SquareWithin, along_at, across_at, square_of}
 
 abbrev edge : Spot → Spot → Edge
 edge u v = record { from = u; to = v }
 
 -- ---- the bound itself
-pub bound_over : (strict : Bool) (D : ℤ) (p q : Point) → NearPoints strict D p q → Below strict (pos 0) D
+pub bound_over : (strict : Bool) (D : ℤ) (p q : Point) → SquareWithin strict D p q → Below strict (pos 0) D
 bound_over strict D p q h =
     let pn : pos 0 <ℤ pos p.n = omega (arith, sums, p.is_over) in
     let qn : pos 0 <ℤ pos q.n = omega (arith, sums, q.is_over) in
@@ -32,7 +33,7 @@ bound_over strict D p q h =
     (below-at strict (pos 0) (D *ℤ ((pos p.n *ℤ pos q.n) *ℤ (pos p.n *ℤ pos q.n))) _ _ (sym (zero-*ℤ ((pos p.n *ℤ pos q.n) *ℤ (pos p.n *ℤ pos q.n)))) refl
     (le-below strict (pos 0) _ _ (omega (arith, sums)) h))
 
-pub near_self : (strict : Bool) (D : ℤ) (z : Point) → Below strict (pos 0) D → NearPoints strict D z z
+pub near_self : (strict : Bool) (D : ℤ) (z : Point) → Below strict (pos 0) D → SquareWithin strict D z z
 near_self strict D z h =
     let zn : pos 0 <ℤ pos z.n = omega (arith, sums, z.is_over) in
     let w : pos 0 <ℤ (pos z.n *ℤ pos z.n) = p*p (pos z.n) (pos z.n) zn zn in
@@ -46,21 +47,21 @@ near_self strict D z h =
         rw (a, b) refl
 
 -- ---- the foot
-foot_point : (strict : Bool) (D : ℤ) (p : Point) (u v : Spot) → AtFoot strict D p u v → (w : Point) × (Along (at u) (at v) w × NearPoints strict D p w)
+foot_point : (strict : Bool) (D : ℤ) (p : Point) (u v : Spot) → AtFoot strict D p u v → (w : Point) × (Along (point_at u) (point_at v) w × SquareWithin strict D p w)
 foot_point strict D p u v f =
     let pn : pos 0 <ℤ pos p.n = omega (arith, sums, p.is_over) in
     let h : pos 0 <ℤ along_of u v p = f.after in
     let k : along_of u v p <ℤ (square u v *ℤ pos p.n) = f.before in
     let l : pos 0 <ℤ square u v = p/p (square u v) (pos p.n) (omega (arith, sums)) (omega (arith, sums)) in
-    let m : (z : Point) × Along (at u) (at v) z × (z.x ≡ (square u v *ℤ pos p.n -ℤ along_of u v p) *ℤ u.x +ℤ along_of u v p *ℤ v.x) × (z.y ≡ (square u v *ℤ pos p.n -ℤ along_of u v p) *ℤ u.y +ℤ along_of u v p *ℤ v.y) × (pos z.n ≡ (square u v *ℤ pos p.n -ℤ along_of u v p) *ℤ pos 1 +ℤ along_of u v p *ℤ pos 1) =
-    mixed (at u) (at v) (square u v *ℤ pos p.n -ℤ along_of u v p) (along_of u v p) (omega (arith, sums)) (omega (arith, sums)) (omega (arith, sums)) in
+    let m : (z : Point) × Along (point_at u) (point_at v) z × (z.x ≡ (square u v *ℤ pos p.n -ℤ along_of u v p) *ℤ u.x +ℤ along_of u v p *ℤ v.x) × (z.y ≡ (square u v *ℤ pos p.n -ℤ along_of u v p) *ℤ u.y +ℤ along_of u v p *ℤ v.y) × (pos z.n ≡ (square u v *ℤ pos p.n -ℤ along_of u v p) *ℤ pos 1 +ℤ along_of u v p *ℤ pos 1) =
+    mixed (point_at u) (point_at v) (square u v *ℤ pos p.n -ℤ along_of u v p) (along_of u v p) (omega (arith, sums)) (omega (arith, sums)) (omega (arith, sums)) in
     let n : pos m.0.n ≡ square u v *ℤ pos p.n = m.4 ∙ count (square u v *ℤ pos p.n) (along_of u v p) in (
       m.0,
       (
         m.1,
-        subst (λ (t : ℤ). NearAt strict D p.x p.y (pos p.n) t m.0.y (pos m.0.n)) (sym m.2)
-            (subst (λ (t : ℤ). NearAt strict D p.x p.y (pos p.n) ((square u v *ℤ pos p.n -ℤ along_of u v p) *ℤ u.x +ℤ along_of u v p *ℤ v.x) t (pos m.0.n)) (sym m.3)
-            (subst (λ (t : ℤ). NearAt strict D p.x p.y (pos p.n) ((square u v *ℤ pos p.n -ℤ along_of u v p) *ℤ u.x +ℤ along_of u v p *ℤ v.x) ((square u v *ℤ pos p.n -ℤ along_of u v p) *ℤ u.y +ℤ along_of u v p *ℤ v.y) t) (sym n)
+        subst (λ (t : ℤ). SquareWithinAt strict D p.x p.y (pos p.n) t m.0.y (pos m.0.n)) (sym m.2)
+            (subst (λ (t : ℤ). SquareWithinAt strict D p.x p.y (pos p.n) ((square u v *ℤ pos p.n -ℤ along_of u v p) *ℤ u.x +ℤ along_of u v p *ℤ v.x) t (pos m.0.n)) (sym m.3)
+            (subst (λ (t : ℤ). SquareWithinAt strict D p.x p.y (pos p.n) ((square u v *ℤ pos p.n -ℤ along_of u v p) *ℤ u.x +ℤ along_of u v p *ℤ v.x) ((square u v *ℤ pos p.n -ℤ along_of u v p) *ℤ u.y +ℤ along_of u v p *ℤ v.y) t) (sym n)
             (by_numbers u.x u.y v.x v.y p.x p.y (pos p.n) pn l f.line))),
       ),
     )
@@ -70,7 +71,7 @@ foot_point strict D p u v f =
 
     by_numbers : (ax ay bx by x y n : ℤ) → pos 0 <ℤ n → pos 0 <ℤ square_of ax ay bx by →
         Below strict (across_at ax ay bx by x y n *ℤ across_at ax ay bx by x y n) ((D *ℤ (n *ℤ n)) *ℤ square_of ax ay bx by) →
-        NearAt strict D x y n ((square_of ax ay bx by *ℤ n -ℤ along_at ax ay bx by x y n) *ℤ ax +ℤ along_at ax ay bx by x y n *ℤ bx)
+        SquareWithinAt strict D x y n ((square_of ax ay bx by *ℤ n -ℤ along_at ax ay bx by x y n) *ℤ ax +ℤ along_at ax ay bx by x y n *ℤ bx)
         ((square_of ax ay bx by *ℤ n -ℤ along_at ax ay bx by x y n) *ℤ ay +ℤ along_at ax ay bx by x y n *ℤ by) (square_of ax ay bx by *ℤ n)
     by_numbers ax ay bx by x y n nn l h =
         below-at strict _ _ _ _
@@ -118,22 +119,22 @@ foot_point strict D p u v f =
         bound : (q n : ℤ) → ((D *ℤ (n *ℤ n)) *ℤ q) *ℤ ((n *ℤ n) *ℤ q) ≡ D *ℤ ((n *ℤ (q *ℤ n)) *ℤ (n *ℤ (q *ℤ n)))
         bound q n = simp products
 
-pub edge_point : (strict : Bool) (D : ℤ) (p : Point) (u v : Spot) → NearEdge strict D p u v → (w : Point) × ((on_edge (edge u v) w ≡ true) × NearPoints strict D p w)
-edge_point strict D p u v (near_from h) = (at u, (on-from u v, h))
-edge_point strict D p u v (near_to h) = (at v, (on-to u v, h))
+pub edge_point : (strict : Bool) (D : ℤ) (p : Point) (u v : Spot) → NearEdge strict D p u v → (w : Point) × ((on_edge (edge u v) w ≡ true) × SquareWithin strict D p w)
+edge_point strict D p u v (near_from h) = (point_at u, (on-from u v, h))
+edge_point strict D p u v (near_to h) = (point_at v, (on-to u v, h))
 edge_point strict D p u v (near_foot f) =
-    let m : (w : Point) × (Along (at u) (at v) w × NearPoints strict D p w) = foot_point strict D p u v f in
+    let m : (w : Point) × (Along (point_at u) (point_at v) w × SquareWithin strict D p w) = foot_point strict D p u v f in
     (m.0, (along-on_edge u v m.0 m.1.0, m.1.1))
 
 -- ---- where two edges cross
 cross_point : (a b c d : Spot) → Crosses a b c d → (z : Point) × ((on_edge (edge a b) z ≡ true) × (on_edge (edge c d) z ≡ true))
 cross_point a b c d x =
-    let w : Weights c.x c.y (pos 1) d.x d.y (pos 1) a.x a.y b.x b.y (across_of a b (at d)) (neg_ℤ (across_of a b (at c))) (neg_ℤ (side_at c.x c.y (pos 1) d.x d.y (pos 1) b.x b.y)) (side_at c.x c.y (pos 1) d.x d.y (pos 1) a.x a.y) =
+    let w : Weights c.x c.y (pos 1) d.x d.y (pos 1) a.x a.y b.x b.y (across_of a b (point_at d)) (neg_ℤ (across_of a b (point_at c))) (neg_ℤ (side_at c.x c.y (pos 1) d.x d.y (pos 1) b.x b.y)) (side_at c.x c.y (pos 1) d.x d.y (pos 1) a.x a.y) =
     weights c.x c.y (pos 1) d.x d.y (pos 1) a.x a.y b.x b.y in
-    let k : Crossing (at c) (at d) (at a) (at b) =
-    crossing_of (at c) (at d) a b (across_of a b (at d)) (neg_ℤ (across_of a b (at c))) (neg_ℤ (side_at c.x c.y (pos 1) d.x d.y (pos 1) b.x b.y)) (side_at c.x c.y (pos 1) d.x d.y (pos 1) a.x a.y)
-    (alike (across_of a b (at c)) (across_of a b (at d)) (across_of c d (at a)) (across_of c d (at b)) (side_at c.x c.y (pos 1) d.x d.y (pos 1) a.x a.y) (side_at c.x c.y (pos 1) d.x d.y (pos 1) b.x b.y)
-    (same_side c.x c.y d.x d.y a.x a.y) (same_side c.x c.y d.x d.y b.x b.y) (total (across_of a b (at d)) (neg_ℤ (across_of a b (at c))) (neg_ℤ (side_at c.x c.y (pos 1) d.x d.y (pos 1) b.x b.y)) (side_at c.x c.y (pos 1) d.x d.y (pos 1) a.x a.y) w.in_n) x.apart x.not_left x.not_right) w in
+    let k : Crossing (point_at c) (point_at d) (point_at a) (point_at b) =
+    crossing_of (point_at c) (point_at d) a b (across_of a b (point_at d)) (neg_ℤ (across_of a b (point_at c))) (neg_ℤ (side_at c.x c.y (pos 1) d.x d.y (pos 1) b.x b.y)) (side_at c.x c.y (pos 1) d.x d.y (pos 1) a.x a.y)
+    (alike (across_of a b (point_at c)) (across_of a b (point_at d)) (across_of c d (point_at a)) (across_of c d (point_at b)) (side_at c.x c.y (pos 1) d.x d.y (pos 1) a.x a.y) (side_at c.x c.y (pos 1) d.x d.y (pos 1) b.x b.y)
+    (same_side c.x c.y d.x d.y a.x a.y) (same_side c.x c.y d.x d.y b.x b.y) (total (across_of a b (point_at d)) (neg_ℤ (across_of a b (point_at c))) (neg_ℤ (side_at c.x c.y (pos 1) d.x d.y (pos 1) b.x b.y)) (side_at c.x c.y (pos 1) d.x d.y (pos 1) a.x a.y) w.in_n) x.apart x.not_left x.not_right) w in
     (k.z, (along-on_edge a b k.z k.second, along-on_edge c d k.z k.first))
   where
     total : (a b c d : ℤ) → a *ℤ pos 1 +ℤ b *ℤ pos 1 ≡ c +ℤ d → a +ℤ b ≡ c +ℤ d
@@ -164,21 +165,21 @@ pub record Both (strict : Bool) (D : ℤ) (e f : Edge) : Type 0 where
   pub w : Point
   pub on_first : on_edge e z ≡ true
   pub on_second : on_edge f w ≡ true
-  pub near : NearPoints strict D z w
+  pub near : SquareWithin strict D z w
 
 pub edges_found : (strict : Bool) (D : ℤ) (a b c d : Spot) → Below strict (pos 0) D → EdgesNear strict D a b c d → Both strict D (edge a b) (edge c d)
 edges_found strict D a b c d o (by_c n) =
-    let m : (w : Point) × ((on_edge (edge a b) w ≡ true) × NearPoints strict D (at c) w) = edge_point strict D (at c) a b n in
-    record { z = m.0; w = at c; on_first = m.1.0; on_second = on-from c d; near = near-turned strict D (at c) m.0 m.1.1 }
+    let m : (w : Point) × ((on_edge (edge a b) w ≡ true) × SquareWithin strict D (point_at c) w) = edge_point strict D (point_at c) a b n in
+    record { z = m.0; w = point_at c; on_first = m.1.0; on_second = on-from c d; near = near-turned strict D (point_at c) m.0 m.1.1 }
 edges_found strict D a b c d o (by_d n) =
-    let m : (w : Point) × ((on_edge (edge a b) w ≡ true) × NearPoints strict D (at d) w) = edge_point strict D (at d) a b n in
-    record { z = m.0; w = at d; on_first = m.1.0; on_second = on-to c d; near = near-turned strict D (at d) m.0 m.1.1 }
+    let m : (w : Point) × ((on_edge (edge a b) w ≡ true) × SquareWithin strict D (point_at d) w) = edge_point strict D (point_at d) a b n in
+    record { z = m.0; w = point_at d; on_first = m.1.0; on_second = on-to c d; near = near-turned strict D (point_at d) m.0 m.1.1 }
 edges_found strict D a b c d o (by_a n) =
-    let m : (w : Point) × ((on_edge (edge c d) w ≡ true) × NearPoints strict D (at a) w) = edge_point strict D (at a) c d n in
-    record { z = at a; w = m.0; on_first = on-from a b; on_second = m.1.0; near = m.1.1 }
+    let m : (w : Point) × ((on_edge (edge c d) w ≡ true) × SquareWithin strict D (point_at a) w) = edge_point strict D (point_at a) c d n in
+    record { z = point_at a; w = m.0; on_first = on-from a b; on_second = m.1.0; near = m.1.1 }
 edges_found strict D a b c d o (by_b n) =
-    let m : (w : Point) × ((on_edge (edge c d) w ≡ true) × NearPoints strict D (at b) w) = edge_point strict D (at b) c d n in
-    record { z = at b; w = m.0; on_first = on-to a b; on_second = m.1.0; near = m.1.1 }
+    let m : (w : Point) × ((on_edge (edge c d) w ≡ true) × SquareWithin strict D (point_at b) w) = edge_point strict D (point_at b) c d n in
+    record { z = point_at b; w = m.0; on_first = on-to a b; on_second = m.1.0; near = m.1.1 }
 edges_found strict D a b c d o (crossed x) =
     let m : (z : Point) × ((on_edge (edge a b) z ≡ true) × (on_edge (edge c d) z ≡ true)) = cross_point a b c d x in
     record { z = m.0; w = m.0; on_first = m.1.0; on_second = m.1.1; near = near_self strict D m.0 o }

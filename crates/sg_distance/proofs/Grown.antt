@@ -6,8 +6,9 @@ use Rattle.std.specs.Int.{int_min, int_max}
 use mathlib.Core.Logic.{inl, inr}
 use lib.IntN.{ℤ, pos, ◌+ℤ◌, ◌-ℤ◌, ◌*ℤ◌}
 use lib.Signed.{◌<ℤ◌, ◌≤ℤ◌, lt_z}
-use Rattle.sg_distance.proofs.Integers.{sums, cmp, less, same, more}
-use Rattle.sg_distance.proofs.Comparisons.{lt-from_true, le-from_false, or_left}
+use Rattle.sg_algebra.proofs.Ring.{sums}
+use Rattle.sg_algebra.specs.Orders.{cmp, less, same, more}
+use Rattle.sg_algebra.proofs.Comparisons.{lt-from_true, le-from_false, or_left}
 use Rattle.sg_distance.proofs.Whole.{here, has_of}
 use Rattle.sg_distance.proofs.Points.{has_status}
 use Rattle.sg_distance.proofs.Bounds.{EdgesIn, lines_in, figure_in, moved_out as near_box}

@@ -1,5 +1,4 @@
-pub mod Integers
-pub mod Comparisons
+pub mod Nearness
 pub mod Mix
 pub mod Signs
 pub mod Quad
@@ -17,7 +16,6 @@ pub mod Points
 pub mod Fitting
 pub mod Bounds
 pub mod Boxed
-pub mod InTurn
 pub mod Apart
 pub mod ByKind
 pub mod Parity

@@ -1,13 +1,15 @@
 -- Points between two points, and what linear tests say of them.
-use Rattle.std.proofs.Common.{◌≡◌, arith, refl, sym, ap, ◌∙◌, Bool, true, false}
-use mathlib.Core.Bool.{◌&&◌, ◌||◌}
-use mathlib.Core.Logic.{inl, inr}
-use lib.IntN.{ℤ, pos, ◌+ℤ◌, ◌-ℤ◌, ◌*ℤ◌, neg_ℤ, *ℤ_comm, zero-*ℤ, *ℤ-zero, *ℤ-one, one}
+use Rattle.std.proofs.Common.{◌≡◌, arith, refl, sym, ap, ◌∙◌, true}
+use mathlib.Core.Bool.{◌&&◌}
+use lib.IntN.{ℤ, pos, ◌+ℤ◌, ◌-ℤ◌, ◌*ℤ◌, *ℤ_comm, zero-*ℤ, *ℤ-zero}
 use lib.Signed.{◌<ℤ◌, ◌≤ℤ◌, le_z}
-use Rattle.sg_distance.proofs.Integers.{sums, products, nonneg_diff-mul, le-cancel_right, eq-cancel_right, mul-nonneg, Cmp, cmp, less, same, more}
-use Rattle.sg_distance.proofs.Comparisons.{le-from_true, true-from_le, same_test, left_true, right_true, both, either_true, or_left, eq-from_true, true-from_eq}
+use Rattle.sg_algebra.proofs.Ring.{sums, products, nonneg_diff-mul, mul-nonneg, times_one}
+use Rattle.sg_algebra.proofs.Edges.{between-not_after, between-swap, on_edge-turned}
+use Rattle.sg_algebra.proofs.Cancelling.{le-cancel_right, eq-cancel_right}
+use Rattle.sg_algebra.specs.Orders.{Cmp, cmp, less, same, more}
+use Rattle.sg_algebra.proofs.Comparisons.{le-from_true, true-from_le, left_true, right_true, both, eq-from_true, true-from_eq}
 use Rattle.sg_shape.specs.Plane.{Point, eq_z, between, on_edge}
-use Rattle.sg_distance.specs.Figure.{at}
+use Rattle.sg_segment.specs.Sides.{point_at}
 use Rattle.sg_shape.specs.declared.spots.Spot.{Spot}
 use Rattle.sg_shape.specs.declared.spots.Edge.{Edge}
 
@@ -58,27 +60,6 @@ lin-over A B C {p} {q} {z} a f g =
     (lin-mix A B C a.k a.s a.t z.x z.y (pos z.n) p.x p.y (pos p.n) q.x q.y (pos q.n) a.in_x a.in_y a.in_n) f g
 
 -- ---- an edge holds what lies between two of its points
-pub or_swap : (s t : Bool) → (s || t) ≡ (t || s)
-or_swap true true = refl
-or_swap true false = refl
-or_swap false true = refl
-or_swap false false = refl
-
-pub between-ordered : (a b v : ℤ) → a ≤ℤ b → between a b v ≡ (le_z a v && le_z v b)
-between-ordered a b v h =
-    same_test
-    (λ t. elim (either_true (le_z a v && le_z v b) (le_z b v && le_z v a) t) [
-      | inl s ↦ s
-      | inr s ↦
-          let p : b ≤ℤ v = le-from_true b v (left_true (le_z b v) (le_z v a) s) in
-          let q : v ≤ℤ a = le-from_true v a (right_true (le_z b v) (le_z v a) s) in
-          both (le_z a v) (le_z v b) (true-from_le a v (omega (arith, sums))) (true-from_le v b (omega (arith, sums)))
-    ])
-    (λ t. or_left (le_z a v && le_z v b) (le_z b v && le_z v a) t)
-
-pub between-swap : (a b v : ℤ) → between a b v ≡ between b a v
-between-swap a b v = or_swap (le_z a v && le_z v b) (le_z b v && le_z v a)
-
 dif-mix : (a k s t x n px pn qx qn : ℤ) → k *ℤ x ≡ s *ℤ px +ℤ t *ℤ qx → k *ℤ n ≡ s *ℤ pn +ℤ t *ℤ qn →
     k *ℤ (x -ℤ a *ℤ n) ≡ s *ℤ (px -ℤ a *ℤ pn) +ℤ t *ℤ (qx -ℤ a *ℤ qn)
 dif-mix a k s t x n px pn qx qn ex en =
@@ -100,8 +81,8 @@ between-up : (a b k s t x n px pn qx qn : ℤ) → a ≤ℤ b → pos 0 ≤ℤ n
     k *ℤ x ≡ s *ℤ px +ℤ t *ℤ qx → k *ℤ n ≡ s *ℤ pn +ℤ t *ℤ qn →
     between (a *ℤ pn) (b *ℤ pn) px ≡ true → between (a *ℤ qn) (b *ℤ qn) qx ≡ true → between (a *ℤ n) (b *ℤ n) x ≡ true
 between-up a b k s t x n px pn qx qn h nn po qo ko so to ex en bp bq =
-    let wp : (le_z (a *ℤ pn) px && le_z px (b *ℤ pn)) ≡ true = sym (between-ordered (a *ℤ pn) (b *ℤ pn) px (nonneg_diff-mul a b pn po h)) ∙ bp in
-    let wq : (le_z (a *ℤ qn) qx && le_z qx (b *ℤ qn)) ≡ true = sym (between-ordered (a *ℤ qn) (b *ℤ qn) qx (nonneg_diff-mul a b qn qo h)) ∙ bq in
+    let wp : (le_z (a *ℤ pn) px && le_z px (b *ℤ pn)) ≡ true = sym (between-not_after (a *ℤ pn) (b *ℤ pn) px (nonneg_diff-mul a b pn po h)) ∙ bp in
+    let wq : (le_z (a *ℤ qn) qx && le_z qx (b *ℤ qn)) ≡ true = sym (between-not_after (a *ℤ qn) (b *ℤ qn) qx (nonneg_diff-mul a b qn qo h)) ∙ bq in
     let p1 : (a *ℤ pn) ≤ℤ px = le-from_true (a *ℤ pn) px (left_true _ _ wp) in
     let p2 : px ≤ℤ (b *ℤ pn) = le-from_true px (b *ℤ pn) (right_true _ _ wp) in
     let q1 : (a *ℤ qn) ≤ℤ qx = le-from_true (a *ℤ qn) qx (left_true _ _ wq) in
@@ -110,7 +91,7 @@ between-up a b k s t x n px pn qx qn h nn po qo ko so to ex en bp bq =
     over-mix k s t (px -ℤ a *ℤ pn) (qx -ℤ a *ℤ qn) (x -ℤ a *ℤ n) ko so to (dif-mix a k s t x n px pn qx qn ex en) (omega (arith, sums)) (omega (arith, sums)) in
     let z2 : pos 0 ≤ℤ (b *ℤ n -ℤ x) =
     over-mix k s t (b *ℤ pn -ℤ px) (b *ℤ qn -ℤ qx) (b *ℤ n -ℤ x) ko so to (fid-mix b k s t x n px pn qx qn ex en) (omega (arith, sums)) (omega (arith, sums)) in
-    between-ordered (a *ℤ n) (b *ℤ n) x (nonneg_diff-mul a b n nn h)
+    between-not_after (a *ℤ n) (b *ℤ n) x (nonneg_diff-mul a b n nn h)
     ∙ both _ _ (true-from_le (a *ℤ n) x (omega (arith, sums))) (true-from_le x (b *ℤ n) (omega (arith, sums)))
 
 between-mix : (a b k s t x n px pn qx qn : ℤ) → pos 0 ≤ℤ n → pos 0 ≤ℤ pn → pos 0 ≤ℤ qn → pos 0 <ℤ k → pos 0 ≤ℤ s → pos 0 ≤ℤ t →
@@ -190,18 +171,14 @@ between-left : (a b : ℤ) → between a b a ≡ true
 between-left a b = by_order (cmp a b)
   where
     by_order : Cmp a b → between a b a ≡ true
-    by_order (less h) = between-ordered a b a (omega (arith, sums)) ∙ both (le_z a a) (le_z a b) (true-from_le a a (omega (arith, sums))) (true-from_le a b (omega (arith, sums)))
-    by_order (same h) = between-ordered a b a (omega (arith, sums)) ∙ both (le_z a a) (le_z a b) (true-from_le a a (omega (arith, sums))) (true-from_le a b (omega (arith, sums)))
-    by_order (more h) = between-swap a b a ∙ between-ordered b a a (omega (arith, sums)) ∙ both (le_z b a) (le_z a a) (true-from_le b a (omega (arith, sums))) (true-from_le a a (omega (arith, sums)))
-
-pub times_one : (a : ℤ) → a *ℤ pos 1 ≡ a
-unfolding one
-times_one a = *ℤ-one a
+    by_order (less h) = between-not_after a b a (omega (arith, sums)) ∙ both (le_z a a) (le_z a b) (true-from_le a a (omega (arith, sums))) (true-from_le a b (omega (arith, sums)))
+    by_order (same h) = between-not_after a b a (omega (arith, sums)) ∙ both (le_z a a) (le_z a b) (true-from_le a a (omega (arith, sums))) (true-from_le a b (omega (arith, sums)))
+    by_order (more h) = between-swap a b a ∙ between-not_after b a a (omega (arith, sums)) ∙ both (le_z b a) (le_z a a) (true-from_le b a (omega (arith, sums))) (true-from_le a a (omega (arith, sums)))
 
 pub one_times : (a : ℤ) → pos 1 *ℤ a ≡ a
 one_times a = *ℤ_comm (pos 1) a ∙ times_one a
 
-pub on-from : (u v : Spot) → on_edge (record { from = u; to = v }) (at u) ≡ true
+pub on-from : (u v : Spot) → on_edge (record { from = u; to = v }) (point_at u) ≡ true
 on-from u v =
     let ex : u.x *ℤ pos 1 ≡ u.x = times_one u.x in
     let ey : u.y *ℤ pos 1 ≡ u.y = times_one u.y in
@@ -209,20 +186,12 @@ on-from u v =
     let dy : u.y -ℤ u.y *ℤ pos 1 ≡ pos 0 = omega (arith, sums) in
     let a : (u.y -ℤ u.y *ℤ pos 1) *ℤ (v.x -ℤ u.x) ≡ pos 0 = rw (dy, zero-*ℤ) refl in
     let b : (u.x -ℤ u.x *ℤ pos 1) *ℤ (v.y -ℤ u.y) ≡ pos 0 = rw (dx, zero-*ℤ) refl in
-    on_from (record { from = u; to = v }) (at u) (omega (arith, sums))
+    on_from (record { from = u; to = v }) (point_at u) (omega (arith, sums))
     (rw (times_one u.x, times_one v.x) (between-left u.x v.x))
     (rw (times_one u.y, times_one v.y) (between-left u.y v.y))
 
-pub on_edge-turned : (u v : Spot) (p : Point) → on_edge (record { from = u; to = v }) p ≡ true → on_edge (record { from = v; to = u }) p ≡ true
-on_edge-turned u v p h =
-    let l : line_at u.x u.y v.x v.y p.x p.y (pos p.n) ≡ pos 0 = on-line (record { from = u; to = v }) p h in
-    let t : line_at v.x v.y u.x u.y p.x p.y (pos p.n) ≡ neg_ℤ (line_at u.x u.y v.x v.y p.x p.y (pos p.n)) = simp products (omega (arith, sums)) in
-    on_from (record { from = v; to = u }) p (omega (arith, sums))
-    (between-swap (v.x *ℤ pos p.n) (u.x *ℤ pos p.n) p.x ∙ left_true _ _ (right_true _ _ h))
-    (between-swap (v.y *ℤ pos p.n) (u.y *ℤ pos p.n) p.y ∙ right_true _ _ (right_true _ _ h))
+pub on-to : (u v : Spot) → on_edge (record { from = u; to = v }) (point_at v) ≡ true
+on-to u v = on_edge-turned v u (point_at v) ∙ on-from v u
 
-pub on-to : (u v : Spot) → on_edge (record { from = u; to = v }) (at v) ≡ true
-on-to u v = on_edge-turned v u (at v) (on-from v u)
-
-pub along-on_edge : (u v : Spot) (z : Point) → Along (at u) (at v) z → on_edge (record { from = u; to = v }) z ≡ true
-along-on_edge u v z a = along-on (record { from = u; to = v }) (at u) (at v) z a (on-from u v) (on-to u v)
+pub along-on_edge : (u v : Spot) (z : Point) → Along (point_at u) (point_at v) z → on_edge (record { from = u; to = v }) z ≡ true
+along-on_edge u v z a = along-on (record { from = u; to = v }) (point_at u) (point_at v) z a (on-from u v) (on-to u v)

@@ -3,23 +3,25 @@ use Rattle.std.proofs.Common.{ℕ, ◌≡◌, ◌≤◌, arith, refl, sym, ap, �
 use mathlib.Core.Bool.{◌&&◌}
 use lib.IntN.{ℤ, pos, ◌+ℤ◌, ◌-ℤ◌, ◌*ℤ◌, neg_ℤ, *ℤ_comm, zero-*ℤ, *ℤ-zero}
 use lib.Signed.{◌<ℤ◌, ◌≤ℤ◌, le_z}
-use Rattle.sg_distance.proofs.Integers.{sums, products, nonneg_diff-mul, mul-neg, neg-mul, add-mul, Cmp, cmp, less, same, more}
-use Rattle.sg_distance.proofs.Comparisons.{le-from_true, left_true, right_true}
+use Rattle.sg_algebra.proofs.Ring.{sums, products, nonneg_diff-mul, mul-neg, neg-mul, add-mul, times_one}
+use Rattle.sg_algebra.specs.Orders.{Cmp, cmp, less, same, more}
+use Rattle.sg_algebra.proofs.Comparisons.{le-from_true, left_true, right_true}
 use Rattle.sg_distance.proofs.Signs.{n*n, p*p}
 use Rattle.sg_distance.proofs.Below.{le-below, below-mul, below-cancel, below-at, square-within, square-zero}
-use Rattle.sg_distance.proofs.Mix.{Along, times_one, one_times, on-line, line-mix, between-ordered, between-swap}
+use Rattle.sg_distance.proofs.Mix.{Along, one_times, on-line, line-mix}
+use Rattle.sg_algebra.proofs.Edges.{between-not_after, between-swap}
 use Rattle.sg_distance.proofs.Quad.{count_of}
 use Rattle.sg_distance.proofs.Foot.{two_squares, spot_near, along_of, across_of, square}
 use Rattle.sg_shape.specs.Plane.{Point, on_edge, between}
-use Rattle.sg_distance.specs.Figure.{at}
+use Rattle.sg_segment.specs.Sides.{point_at}
 use Rattle.sg_shape.specs.declared.spots.Spot.{Spot}
 use Rattle.sg_shape.specs.declared.spots.Edge.{Edge}
-use Rattle.sg_distance.specs.Edges.{Below, NearPoints, along_at, across_at, square_of}
+use Rattle.sg_distance.proofs.Nearness.{Below, SquareWithin, along_at, across_at, square_of}
 
 abbrev edge : Spot → Spot → Edge
 edge u v = record { from = u; to = v }
 
-pub near-turned : (strict : Bool) (D : ℤ) (p q : Point) → NearPoints strict D p q → NearPoints strict D q p
+pub near-turned : (strict : Bool) (D : ℤ) (p q : Point) → SquareWithin strict D p q → SquareWithin strict D q p
 near-turned strict D p q h = below-at strict _ _ _ _ (squares p.x p.y (pos p.n) q.x q.y (pos q.n)) (bound D (pos p.n) (pos q.n)) h
   where
     squares : (px py pn qx qy qn : ℤ) → (px *ℤ qn -ℤ qx *ℤ pn) *ℤ (px *ℤ qn -ℤ qx *ℤ pn) +ℤ (py *ℤ qn -ℤ qy *ℤ pn) *ℤ (py *ℤ qn -ℤ qy *ℤ pn)
@@ -45,7 +47,7 @@ product_within a b x n nn h = by_order (cmp a b)
 
     straight : a ≤ℤ b → (pos 0 ≤ℤ ((x -ℤ a *ℤ n) *ℤ (b -ℤ a))) × (((x -ℤ a *ℤ n) *ℤ (b -ℤ a)) ≤ℤ ((b -ℤ a) *ℤ (b -ℤ a) *ℤ n))
     straight k =
-        let w : (le_z (a *ℤ n) x && le_z x (b *ℤ n)) ≡ true = sym (between-ordered (a *ℤ n) (b *ℤ n) x (nonneg_diff-mul a b n nn k)) ∙ h in
+        let w : (le_z (a *ℤ n) x && le_z x (b *ℤ n)) ≡ true = sym (between-not_after (a *ℤ n) (b *ℤ n) x (nonneg_diff-mul a b n nn k)) ∙ h in
         let l1 : (a *ℤ n) ≤ℤ x = le-from_true (a *ℤ n) x (left_true (le_z (a *ℤ n) x) (le_z x (b *ℤ n)) w) in
         let l2 : x ≤ℤ (b *ℤ n) = le-from_true x (b *ℤ n) (right_true (le_z (a *ℤ n) x) (le_z x (b *ℤ n)) w) in
         let e : (b -ℤ a) *ℤ n ≡ b *ℤ n -ℤ a *ℤ n = dn in
@@ -53,7 +55,7 @@ product_within a b x n nn h = by_order (cmp a b)
 
     back : b ≤ℤ a → (pos 0 ≤ℤ ((x -ℤ a *ℤ n) *ℤ (b -ℤ a))) × (((x -ℤ a *ℤ n) *ℤ (b -ℤ a)) ≤ℤ ((b -ℤ a) *ℤ (b -ℤ a) *ℤ n))
     back k =
-        let w : (le_z (b *ℤ n) x && le_z x (a *ℤ n)) ≡ true = sym (between-ordered (b *ℤ n) (a *ℤ n) x (nonneg_diff-mul b a n nn k)) ∙ between-swap (b *ℤ n) (a *ℤ n) x ∙ h in
+        let w : (le_z (b *ℤ n) x && le_z x (a *ℤ n)) ≡ true = sym (between-not_after (b *ℤ n) (a *ℤ n) x (nonneg_diff-mul b a n nn k)) ∙ between-swap (b *ℤ n) (a *ℤ n) x ∙ h in
         let l1 : (b *ℤ n) ≤ℤ x = le-from_true (b *ℤ n) x (left_true (le_z (b *ℤ n) x) (le_z x (a *ℤ n)) w) in
         let l2 : x ≤ℤ (a *ℤ n) = le-from_true x (a *ℤ n) (right_true (le_z (b *ℤ n) x) (le_z x (a *ℤ n)) w) in
         let e : (a -ℤ b) *ℤ n ≡ a *ℤ n -ℤ b *ℤ n = turned_dn in
@@ -80,7 +82,7 @@ product_within a b x n nn h = by_order (cmp a b)
     by_order (more k) = back (omega (arith, sums))
 
 -- on the line and within the span of an edge that has a length
-pub along_span : (u v : Spot) (w : Point) → pos 0 <ℤ square u v → across_of u v w ≡ pos 0 → pos 0 ≤ℤ along_of u v w → along_of u v w ≤ℤ (square u v *ℤ pos w.n) → Along (at u) (at v) w
+pub along_span : (u v : Spot) (w : Point) → pos 0 <ℤ square u v → across_of u v w ≡ pos 0 → pos 0 ≤ℤ along_of u v w → along_of u v w ≤ℤ (square u v *ℤ pos w.n) → Along (point_at u) (point_at v) w
 along_span u v w l c a b = record {
   k = square u v;
   s = square u v *ℤ pos w.n -ℤ along_of u v w;
@@ -131,7 +133,7 @@ along_span u v w l c a b = record {
         collect q l a b = simp products (omega (arith, sums))
 
 -- an edge with no length holds one point
-dot_along : (u v : Spot) (w : Point) → square u v ≤ℤ pos 0 → on_edge (edge u v) w ≡ true → Along (at u) (at v) w
+dot_along : (u v : Spot) (w : Point) → square u v ≤ℤ pos 0 → on_edge (edge u v) w ≡ true → Along (point_at u) (point_at v) w
 dot_along u v w l h =
     let z : (v.x -ℤ u.x ≡ pos 0) × (v.y -ℤ u.y ≡ pos 0) = square-zero (v.x -ℤ u.x) (v.y -ℤ u.y) l in
     let ex : v.x ≡ u.x = let e : v.x -ℤ u.x ≡ pos 0 = z.0 in omega (arith, sums) in
@@ -160,7 +162,7 @@ dot_along u v w l h =
   where
     pinned : (a x : ℤ) → between a a x ≡ true → x ≡ a
     pinned a x h =
-        let w : (le_z a x && le_z x a) ≡ true = sym (between-ordered a a x (omega (arith, sums))) ∙ h in
+        let w : (le_z a x && le_z x a) ≡ true = sym (between-not_after a a x (omega (arith, sums))) ∙ h in
         let l1 : a ≤ℤ x = le-from_true a x (left_true (le_z a x) (le_z x a) w) in
         let l2 : x ≤ℤ a = le-from_true x a (right_true (le_z a x) (le_z x a) w) in
         omega (arith, sums)
@@ -181,10 +183,10 @@ on_x u v w h = left_true _ _ (right_true _ _ h)
 on_y : (u v : Spot) (w : Point) → on_edge (edge u v) w ≡ true → between (u.y *ℤ pos w.n) (v.y *ℤ pos w.n) w.y ≡ true
 on_y u v w h = right_true _ _ (right_true _ _ h)
 
-pub on-along : (u v : Spot) (w : Point) → on_edge (edge u v) w ≡ true → Along (at u) (at v) w
+pub on-along : (u v : Spot) (w : Point) → on_edge (edge u v) w ≡ true → Along (point_at u) (point_at v) w
 on-along u v w h = by_length (cmp (pos 0) (square u v))
   where
-    long : pos 0 <ℤ square u v → Along (at u) (at v) w
+    long : pos 0 <ℤ square u v → Along (point_at u) (point_at v) w
     long l =
         let px : (pos 0 ≤ℤ ((w.x -ℤ u.x *ℤ pos w.n) *ℤ (v.x -ℤ u.x))) × (((w.x -ℤ u.x *ℤ pos w.n) *ℤ (v.x -ℤ u.x)) ≤ℤ ((v.x -ℤ u.x) *ℤ (v.x -ℤ u.x) *ℤ pos w.n)) =
         product_within u.x v.x w.x (pos w.n) (omega (arith, sums)) (on_x u v w h) in
@@ -197,7 +199,7 @@ on-along u v w h = by_length (cmp (pos 0) (square u v))
         let s : square u v *ℤ pos w.n ≡ (v.x -ℤ u.x) *ℤ (v.x -ℤ u.x) *ℤ pos w.n +ℤ (v.y -ℤ u.y) *ℤ (v.y -ℤ u.y) *ℤ pos w.n = add-mul ((v.x -ℤ u.x) *ℤ (v.x -ℤ u.x)) ((v.y -ℤ u.y) *ℤ (v.y -ℤ u.y)) (pos w.n) in
         along_span u v w l (on-line (edge u v) w h) (omega (arith, sums)) (omega (arith, sums))
 
-    by_length : Cmp (pos 0) (square u v) → Along (at u) (at v) w
+    by_length : Cmp (pos 0) (square u v) → Along (point_at u) (point_at v) w
     by_length (less l) = long l
     by_length (same l) = dot_along u v w (omega (arith, sums)) h
     by_length (more l) = dot_along u v w (omega (arith, sums)) h
@@ -266,7 +268,7 @@ pub record NearLine (strict : Bool) (D : ℤ) (a b : Spot) (w r : Point) (M : �
   pub bound : Below strict (M *ℤ M) ((D *ℤ (pos w.n *ℤ pos w.n)) *ℤ square a b)
 
 pub slide : (strict : Bool) (D : ℤ) (a b : Spot) (w r : Point) (M : ℤ) → pos 0 <ℤ square a b → NearLine strict D a b w r M → pos 0 <ℤ along_of a b w → along_of a b r ≤ℤ pos 0 →
-    (z : Point) × (Along w r z × NearPoints strict D z (at a))
+    (z : Point) × (Along w r z × SquareWithin strict D z (point_at a))
 slide strict D a b w r M l n hw hr =
     let m : (z : Point) × Along w r z × (z.x ≡ neg_ℤ (along_of a b r) *ℤ w.x +ℤ along_of a b w *ℤ r.x) × (z.y ≡ neg_ℤ (along_of a b r) *ℤ w.y +ℤ along_of a b w *ℤ r.y) × (pos z.n ≡ neg_ℤ (along_of a b r) *ℤ pos w.n +ℤ along_of a b w *ℤ pos r.n) =
     mixed w r (neg_ℤ (along_of a b r)) (along_of a b w) (omega (arith, sums)) (omega (arith, sums)) (omega (arith, sums)) in

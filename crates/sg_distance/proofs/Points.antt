@@ -6,15 +6,18 @@ use mathlib.Core.Bool.{◌&&◌, ◌||◌}
 use mathlib.Core.Logic.{inl, inr}
 use lib.IntN.{ℤ, pos, ◌+ℤ◌, ◌*ℤ◌, *ℤ_comm, zero-*ℤ}
 use lib.Signed.{◌≤ℤ◌, le_z}
-use Rattle.sg_distance.proofs.Integers.{sums}
-use Rattle.sg_distance.proofs.Comparisons.{le-from_true, left_true, right_true, both, either_true, or_left, or_right, eq-from_true, true-from_eq, same_test}
-use Rattle.sg_distance.proofs.Mix.{Along, along-on, on-from, on-to, one_times, between-ordered}
+use Rattle.sg_algebra.proofs.Ring.{sums}
+use Rattle.sg_algebra.proofs.Comparisons.{le-from_true, left_true, right_true, both, either_true, or_left, or_right, eq-from_true, true-from_eq, same_test}
+use Rattle.sg_distance.proofs.Mix.{Along, along-on, on-from, on-to, one_times}
+use Rattle.sg_algebra.proofs.Edges.{between-not_after}
 use Rattle.sg_distance.proofs.Walk.{any-left, any-right}
 use Rattle.sg_distance.proofs.Reach.{any-split}
 use Rattle.sg_distance.proofs.Whole.{edges-append}
 use Rattle.sg_shape.specs.Plane.{Point, Parts, Status, In, Bd, Out, status, lines_status, area_status, is_in, is_bd, odd, eq_z, between, is_at, same_spot, last_of, ends_at, on_edge, crosses_ray, edges_from, edges_of}
 use Rattle.sg_shape.specs.Boxes.{is_held}
-use Rattle.sg_distance.specs.Figure.{at, xor, parity, on_any, bones, rings_of, dots, inside_any, has, Joined, Sound}
+use Rattle.sg_segment.specs.Sides.{point_at}
+use Rattle.sg_segment.specs.Statuses.{xor, parity}
+use Rattle.sg_distance.specs.Figure.{on_any, bones, rings_of, dots, inside_any, has, Joined, Sound}
 use Rattle.sg_shape.specs.declared.spots.Spot.{Spot}
 use Rattle.sg_shape.specs.declared.spots.Edge.{Edge}
 
@@ -46,7 +49,7 @@ counted f (x ∷ xs) h = by_test (counted f xs) (f x) refl (sym (ap odd (sum_by-
     by_test r false e g = let q : 0 + count_by f xs ≡ count_by f xs = omega arith in or_right (f x) (list_any f xs) (r (subst (λ n. odd n ≡ true) q g))
 
 -- ---- a spot and the edge from it to itself
-at_along : (s : Spot) (p : Point) → is_at s p ≡ true → Along (at s) (at s) p
+at_along : (s : Spot) (p : Point) → is_at s p ≡ true → Along (point_at s) (point_at s) p
 at_along s p h =
     let x : p.x ≡ s.x *ℤ pos p.n = eq-from_true p.x (s.x *ℤ pos p.n) (left_true (eq_z p.x (s.x *ℤ pos p.n)) (eq_z p.y (s.y *ℤ pos p.n)) h) in
     let y : p.y ≡ s.y *ℤ pos p.n = eq-from_true p.y (s.y *ℤ pos p.n) (right_true (eq_z p.x (s.x *ℤ pos p.n)) (eq_z p.y (s.y *ℤ pos p.n)) h) in
@@ -69,8 +72,8 @@ at_along s p h =
         let h : pos 0 *ℤ a ≡ pos 0 = zero-*ℤ a in
         omega (arith, sums)
 
-at_on : (e : Edge) (s : Spot) (p : Point) → on_edge e (at s) ≡ true → is_at s p ≡ true → on_edge e p ≡ true
-at_on e s p o h = along-on e (at s) (at s) p (at_along s p h) o o
+at_on : (e : Edge) (s : Spot) (p : Point) → on_edge e (point_at s) ≡ true → is_at s p ≡ true → on_edge e p ≡ true
+at_on e s p o h = along-on e (point_at s) (point_at s) p (at_along s p h) o o
 
 on_dot : (s : Spot) (p : Point) → on_edge (record { from = s; to = s }) p ≡ true → is_at s p ≡ true
 on_dot s p h =
@@ -80,7 +83,7 @@ on_dot s p h =
   where
     pinned : (a x : ℤ) → between a a x ≡ true → eq_z x a ≡ true
     pinned a x h =
-        let w : (le_z a x && le_z x a) ≡ true = sym (between-ordered a a x (omega (arith, sums))) ∙ h in
+        let w : (le_z a x && le_z x a) ≡ true = sym (between-not_after a a x (omega (arith, sums))) ∙ h in
         let l1 : a ≤ℤ x = le-from_true a x (left_true (le_z a x) (le_z x a) w) in
         let l2 : x ≤ℤ a = le-from_true x a (right_true (le_z a x) (le_z x a) w) in
         true-from_eq x a (omega (arith, sums))

@@ -2,11 +2,12 @@
 use Rattle.std.proofs.Common.{ℕ, ◌≡◌, ◌≤◌, arith, refl, ap, ◌∙◌, zero, suc}
 use lib.IntN.{ℤ, pos, negsuc, ◌+ℤ◌, ◌-ℤ◌, ◌*ℤ◌, neg_ℤ}
 use lib.Signed.{◌<ℤ◌, ◌≤ℤ◌}
-use Rattle.sg_distance.proofs.Integers.{sums, products, neg-mul, cmp, less, same, more}
-use Rattle.sg_distance.proofs.Mix.{line_at, Along, times_one, one_times}
+use Rattle.sg_algebra.proofs.Ring.{sums, products, neg-mul, times_one}
+use Rattle.sg_algebra.specs.Orders.{cmp, less, same, more}
+use Rattle.sg_distance.proofs.Mix.{line_at, Along, one_times}
 use Rattle.sg_distance.proofs.Signs.{Ties, Alike, over, under, p*p, n*n}
 use Rattle.sg_shape.specs.Plane.{Point}
-use Rattle.sg_distance.specs.Figure.{at}
+use Rattle.sg_segment.specs.Sides.{point_at}
 use Rattle.sg_shape.specs.declared.spots.Spot.{Spot}
 
 -- where the spot u lies against the line from p to q: above 0 on its left
@@ -118,7 +119,7 @@ pub record Crossing (p q u v : Point) : Type 0 where
 
 crossing_over : (p q : Point) (u v : Spot) (a b c d : ℤ) → pos 0 ≤ℤ a → pos 0 ≤ℤ b → pos 0 <ℤ (a +ℤ b) → pos 0 ≤ℤ c → pos 0 ≤ℤ d →
     a *ℤ p.x +ℤ b *ℤ q.x ≡ c *ℤ u.x +ℤ d *ℤ v.x → a *ℤ p.y +ℤ b *ℤ q.y ≡ c *ℤ u.y +ℤ d *ℤ v.y → a *ℤ pos p.n +ℤ b *ℤ pos q.n ≡ c +ℤ d →
-    Crossing p q (at u) (at v)
+    Crossing p q (point_at u) (point_at v)
 crossing_over p q u v a b c d ha hb hab hc hd ex ey en =
     let pn : pos 0 <ℤ pos p.n = omega (arith, sums, p.is_over) in
     let qn : pos 0 <ℤ pos q.n = omega (arith, sums, q.is_over) in
@@ -145,7 +146,7 @@ crossing_over p q u v a b c d ha hb hab hc hd ex ey en =
         ]
 
 pub crossing_of : (p q : Point) (u v : Spot) (a b c d : ℤ) → Alike a b c d →
-    Weights p.x p.y (pos p.n) q.x q.y (pos q.n) u.x u.y v.x v.y a b c d → Crossing p q (at u) (at v)
+    Weights p.x p.y (pos p.n) q.x q.y (pos q.n) u.x u.y v.x v.y a b c d → Crossing p q (point_at u) (point_at v)
 crossing_of p q u v a b c d (over ha hb hab hc hd) w = crossing_over p q u v a b c d ha hb hab hc hd w.in_x w.in_y w.in_n
 crossing_of p q u v a b c d (under ha hb hab hc hd) w =
     crossing_over p q u v (neg_ℤ a) (neg_ℤ b) (neg_ℤ c) (neg_ℤ d)

@@ -4,13 +4,18 @@ use mathlib.Core.Bool.{◌&&◌, ◌||◌}
 use mathlib.Core.Logic.{◌⊎◌, inl, inr}
 use lib.IntN.{ℤ, pos, ◌+ℤ◌, ◌-ℤ◌, ◌*ℤ◌, *ℤ_comm, zero-*ℤ}
 use lib.Signed.{◌<ℤ◌, ◌≤ℤ◌}
-use Rattle.sg_distance.proofs.Integers.{sums, products, nonneg_diff-mul, lt-mul_right, le-cancel_right, lt-cancel_right, eq-cancel_right, mul_assoc, cmp, less, same, more}
-use Rattle.sg_distance.proofs.Comparisons.{lt-from_true, true-from_lt, le-from_false, same_test, left_true, right_true, both, either_true, or_left, or_right}
+use Rattle.sg_algebra.proofs.Ring.{sums, products, nonneg_diff-mul, lt-mul_right, mul_assoc, times_one}
+use Rattle.sg_algebra.proofs.Cancelling.{le-cancel_right, lt-cancel_right, eq-cancel_right}
+use Rattle.sg_algebra.specs.Orders.{cmp, less, same, more}
+use Rattle.sg_algebra.proofs.Comparisons.{lt-from_true, true-from_lt, le-from_false, same_test, left_true, right_true, both, either_true, or_left, or_right}
 use Rattle.sg_distance.proofs.Signs.{p*p, p/p, w/p}
-use Rattle.sg_distance.proofs.Mix.{line_at, Along, along-on, on-line, along-on_edge, on_edge-turned, one_times, times_one}
+use Rattle.sg_distance.proofs.Mix.{line_at, Along, along-on, on-line, along-on_edge, one_times}
+use Rattle.sg_algebra.proofs.Edges.{on_edge-turned}
 use Rattle.sg_distance.proofs.Quad.{count_of}
 use Rattle.sg_distance.proofs.Reach.{holds}
-use Rattle.sg_distance.specs.Figure.{at, parity, on_any}
+use Rattle.sg_segment.specs.Sides.{point_at}
+use Rattle.sg_segment.specs.Statuses.{parity}
+use Rattle.sg_distance.specs.Figure.{on_any}
 use Rattle.sg_shape.specs.Plane.{Point, on_edge, is_above, passes_right, crosses_ray, edges_of}
 use Rattle.sg_shape.specs.declared.spots.Spot.{Spot}
 use Rattle.sg_shape.specs.declared.spots.Edge.{Edge}
@@ -113,7 +118,7 @@ pass_up e u v q c on off again =
     make n n1 ne hi lo pr d h1 h2 =
         let z : Point = record { x = (v.y *ℤ pos q.n -ℤ q.y) *ℤ u.x +ℤ (q.y -ℤ u.y *ℤ pos q.n) *ℤ v.x; y = q.y *ℤ (v.y -ℤ u.y); n = n; is_over = n1 } in
         let lev : Level z q = level q.y (v.y -ℤ u.y) (pos q.n) (pos n) ne in
-        let alo : Along (at u) (at v) z = record {
+        let alo : Along (point_at u) (point_at v) z = record {
           k = pos 1;
           s = v.y *ℤ pos q.n -ℤ q.y;
           t = q.y -ℤ u.y *ℤ pos q.n;
@@ -167,7 +172,7 @@ pass_up e u v q c on off again =
 pub pass_of : (e : Edge) (q : Point) → crosses_ray e q ≡ true → Pass e q
 pass_of e q c = elim (either_true (cross_up e.from e.to q) (cross_up e.to e.from q) c) [
   | inl l ↦ pass_up e e.from e.to q l (λ p h. h) (λ p h. h) (λ p h. or_left (cross_up e.from e.to p) (cross_up e.to e.from p) h)
-  | inr r ↦ pass_up e e.to e.from q r (λ p h. on_edge-turned e.to e.from p h) (λ p h. on_edge-turned e.from e.to p h) (λ p h. or_right (cross_up e.from e.to p) (cross_up e.to e.from p) h)
+  | inr r ↦ pass_up e e.to e.from q r (λ p h. on_edge-turned e.to e.from p ∙ h) (λ p h. on_edge-turned e.from e.to p ∙ h) (λ p h. or_right (cross_up e.from e.to p) (cross_up e.to e.from p) h)
 ]
 
 level_trans : (p q z : Point) → Level p q → Level q z → Level p z

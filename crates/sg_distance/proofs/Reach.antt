@@ -3,11 +3,13 @@ use Rattle.std.proofs.Common.{◌≡◌, refl, sym, ◌∙◌, Bool, true, false
 use Rattle.std.specs.List.{list_any}
 use mathlib.Core.Bool.{◌||◌}
 use mathlib.Core.Logic.{◌⊎◌, inl, inr}
-use Rattle.sg_distance.proofs.Comparisons.{either_true, or_left, or_right}
+use Rattle.sg_algebra.proofs.Comparisons.{either_true, or_left, or_right}
 use Rattle.sg_distance.proofs.Mix.{along-on, on-from, on-to}
 use Rattle.sg_distance.proofs.Walk.{Even, walk_rings, any-left, any-right}
 use Rattle.sg_shape.specs.Plane.{Point, on_edge, edges_from, edges_of}
-use Rattle.sg_distance.specs.Figure.{at, xor, parity, Closed, on_any}
+use Rattle.sg_segment.specs.Sides.{point_at}
+use Rattle.sg_segment.specs.Statuses.{xor, parity}
+use Rattle.sg_distance.specs.Figure.{Closed, on_any}
 use Rattle.sg_shape.specs.declared.spots.Spot.{Spot}
 use Rattle.sg_shape.specs.declared.spots.Edge.{Edge}
 
@@ -52,28 +54,28 @@ abbrev edge : Spot → Spot → Edge
 edge u v = record { from = u; to = v }
 
 pub reach_chain : (rs : List (List Spot)) → Closed rs → (s : Spot) (ss : List Spot) (q : Point) → on_any (edges_from s ss) q ≡ true → holds rs q ≡ true →
-    Touch (edges_from s ss) (edges_of rs) ⊎ (holds rs (at s) ≡ true)
+    Touch (edges_from s ss) (edges_of rs) ⊎ (holds rs (point_at s) ≡ true)
 reach_chain rs c s [] q o h = absurd (cc)
 reach_chain rs c s (t ∷ ts) q o h = by_place (λ r. reach_chain rs c t ts q r h) (either_true (on_edge (edge s t) q) (on_any (edges_from t ts) q) o)
   where
-    back : (r : Point) → on_edge (edge s t) r ≡ true → holds rs r ≡ true → Touch (edges_from s (t ∷ ts)) (edges_of rs) ⊎ (holds rs (at s) ≡ true)
-    back r o h = elim (step rs c (edge s t) r (at s) o (on-from s t) h) [
+    back : (r : Point) → on_edge (edge s t) r ≡ true → holds rs r ≡ true → Touch (edges_from s (t ∷ ts)) (edges_of rs) ⊎ (holds rs (point_at s) ≡ true)
+    back r o h = elim (step rs c (edge s t) r (point_at s) o (on-from s t) h) [
       | inl m ↦ inl (touch_first (edge s t) (edges_from t ts) (edges_of rs) m)
       | inr k ↦ inr k
     ]
 
-    by_place : (on_any (edges_from t ts) q ≡ true → Touch (edges_from t ts) (edges_of rs) ⊎ (holds rs (at t) ≡ true)) → (on_edge (edge s t) q ≡ true) ⊎ (on_any (edges_from t ts) q ≡ true) → Touch (edges_from s (t ∷ ts)) (edges_of rs) ⊎ (holds rs (at s) ≡ true)
+    by_place : (on_any (edges_from t ts) q ≡ true → Touch (edges_from t ts) (edges_of rs) ⊎ (holds rs (point_at t) ≡ true)) → (on_edge (edge s t) q ≡ true) ⊎ (on_any (edges_from t ts) q ≡ true) → Touch (edges_from s (t ∷ ts)) (edges_of rs) ⊎ (holds rs (point_at s) ≡ true)
     by_place f (inl l) = back q l h
     by_place f (inr r) = elim (f r) [
       | inl m ↦ inl (touch_rest (edge s t) (edges_from t ts) (edges_of rs) m)
-      | inr k ↦ back (at t) (on-to s t) k
+      | inr k ↦ back (point_at t) (on-to s t) k
     ]
 
 -- the first spot of some line or ring lies in the area
 abbrev pub first_inside : List (List Spot) → List (List Spot) → Bool
 first_inside rs [] = false
 first_inside rs ([] ∷ ls) = first_inside rs ls
-first_inside rs ((s ∷ ss) ∷ ls) = holds rs (at s) || first_inside rs ls
+first_inside rs ((s ∷ ss) ∷ ls) = holds rs (point_at s) || first_inside rs ls
 
 pub touch_left : (es fs gs : List Edge) → Touch es gs → Touch (es ++ fs) gs
 touch_left es fs gs t = record { z = t.z; first = any-left (λ e. on_edge e t.z) es fs t.first; second = t.second }
@@ -98,9 +100,9 @@ reach_lines rs c ((s ∷ ss) ∷ ls) q o h = by_place (λ r. reach_lines rs c ls
     by_place : (on_any (edges_of ls) q ≡ true → Touch (edges_of ls) (edges_of rs) ⊎ (first_inside rs ls ≡ true)) → (on_any (edges_from s ss) q ≡ true) ⊎ (on_any (edges_of ls) q ≡ true) → Touch (edges_of ((s ∷ ss) ∷ ls)) (edges_of rs) ⊎ (first_inside rs ((s ∷ ss) ∷ ls) ≡ true)
     by_place f (inl l) = elim (reach_chain rs c s ss q l h) [
       | inl m ↦ inl (touch_left (edges_from s ss) (edges_of ls) (edges_of rs) m)
-      | inr k ↦ inr (or_left (holds rs (at s)) (first_inside rs ls) k)
+      | inr k ↦ inr (or_left (holds rs (point_at s)) (first_inside rs ls) k)
     ]
     by_place f (inr r) = elim (f r) [
       | inl m ↦ inl (touch_right (edges_from s ss) (edges_of ls) (edges_of rs) m)
-      | inr k ↦ inr (or_right (holds rs (at s)) (first_inside rs ls) k)
+      | inr k ↦ inr (or_right (holds rs (point_at s)) (first_inside rs ls) k)
     ]

@@ -6,8 +6,8 @@ use mathlib.Core.Bool.{◌||◌, ◌&&◌}
 use mathlib.Core.Logic.{◌⊎◌, inl, inr}
 use lib.IntN.{ℤ, pos, ◌*ℤ◌}
 use lib.Signed.{◌<ℤ◌}
-use Rattle.sg_distance.proofs.Integers.{sums, products}
-use Rattle.sg_distance.proofs.Comparisons.{le-from_true, true-from_le, lt-from_true, true-from_lt, right_true, both, either_true, or_left, or_right}
+use Rattle.sg_algebra.proofs.Ring.{sums, products}
+use Rattle.sg_algebra.proofs.Comparisons.{le-from_true, true-from_le, lt-from_true, true-from_lt, right_true, both, either_true, or_left, or_right}
 use Rattle.sg_distance.proofs.Signs.{n*n, p*p}
 use Rattle.sg_distance.proofs.Below.{below-at}
 use Rattle.sg_distance.proofs.Mix.{on-from}
@@ -18,10 +18,13 @@ use Rattle.sg_distance.proofs.EdgeTests.{bones_pass, near_test, true_below}
 use Rattle.sg_distance.proofs.Points.{has_status}
 use Rattle.sg_distance.proofs.Bounds.{EdgesIn, lines_in, figure_in}
 use Rattle.sg_distance.proofs.Apart.{apart_points}
-use Rattle.sg_distance.proofs.Statuses.{NearShapes, test_finds, test_misses_none}
+use Rattle.sg_distance.proofs.Statuses.{NearByStatus, test_finds, test_misses_none}
 use Rattle.sg_distance.proofs.Soundness.{lines_joined, on_lines, chains_are, sound_of}
-use Rattle.sg_distance.specs.Edges.{Below, below, NearPoints}
-use Rattle.sg_distance.specs.Figure.{at, parity, on_any, Joined}
+use Rattle.sg_distance.proofs.Nearness.{Below, SquareWithin}
+use Rattle.sg_distance.specs.Edges.{below}
+use Rattle.sg_segment.specs.Sides.{point_at}
+use Rattle.sg_segment.specs.Statuses.{parity}
+use Rattle.sg_distance.specs.Figure.{on_any, Joined}
 use Rattle.sg_distance.specs.Shapes.{lines_of, area_of, is_near_any, first_odd, shapes_test, are_apart}
 use Rattle.sg_distance.specs.declared.edges.Limit.{Limit}
 use Rattle.sg_shape.specs.Plane.{Point, on_edge, edges, edges_from, edges_of}
@@ -41,13 +44,13 @@ use Rattle.sg_shape.specs.declared.shapes.Shape.TheVariants as shape
 limit_same : (d m n : ℤ) → (d *ℤ (m *ℤ n)) *ℤ (d *ℤ (m *ℤ n)) ≡ (d *ℤ d) *ℤ ((m *ℤ n) *ℤ (m *ℤ n))
 limit_same d m n = simp products
 
-pub close_near : (p q : Point) (d : ℕ) (strict : Bool) → IsTrue (is_within p q d strict) → NearPoints strict (pos d *ℤ pos d) p q
+pub close_near : (p q : Point) (d : ℕ) (strict : Bool) → IsTrue (is_within p q d strict) → SquareWithin strict (pos d *ℤ pos d) p q
 close_near p q d true h =
     below-at true _ _ _ _ refl (limit_same (pos d) (pos p.n) (pos q.n)) (lt-from_true (apart p q) (square (pos d *ℤ (pos p.n *ℤ pos q.n))) h)
 close_near p q d false h =
     below-at false _ _ _ _ refl (limit_same (pos d) (pos p.n) (pos q.n)) (le-from_true (apart p q) (square (pos d *ℤ (pos p.n *ℤ pos q.n))) h)
 
-near_close : (p q : Point) (d : ℕ) (strict : Bool) → NearPoints strict (pos d *ℤ pos d) p q → IsTrue (is_within p q d strict)
+near_close : (p q : Point) (d : ℕ) (strict : Bool) → SquareWithin strict (pos d *ℤ pos d) p q → IsTrue (is_within p q d strict)
 near_close p q d true h =
     true-from_lt (apart p q) (square (pos d *ℤ (pos p.n *ℤ pos q.n))) (below-at true _ _ _ _ refl (sym (limit_same (pos d) (pos p.n) (pos q.n))) h)
 near_close p q d false h =
@@ -56,37 +59,37 @@ near_close p q d false h =
 abbrev squared : Limit → ℤ
 squared l = pos l.distance *ℤ pos l.distance
 
-to_near : (l : Limit) (a b : Shape) → NearShapes l.strict (squared l) (parts_of a) (parts_of b) → Near a b l.distance l.strict
+to_near : (l : Limit) (a b : Shape) → NearByStatus l.strict (squared l) (parts_of a) (parts_of b) → Near a b l.distance l.strict
 to_near l a b n = record { p = n.p; q = n.q; first = n.of_a; second = n.of_b; close = near_close n.p n.q l.distance l.strict n.near }
 
-from_near : (l : Limit) (a b : Shape) → Near a b l.distance l.strict → NearShapes l.strict (squared l) (parts_of a) (parts_of b)
+from_near : (l : Limit) (a b : Shape) → Near a b l.distance l.strict → NearByStatus l.strict (squared l) (parts_of a) (parts_of b)
 from_near l a b n = record { p = n.p; q = n.q; of_a = n.first; of_b = n.second; near = close_near n.p n.q l.distance l.strict n.close }
 
 -- ---- a first spot that lies in the area lies inside it, or the lines meet there
 odd_inside : (rings ls : List (List Spot)) → first_odd rings ls ≡ true → first_inside rings ls ≡ true
 odd_inside rings [] h = h
 odd_inside rings ([] ∷ ls) h = odd_inside rings ls h
-odd_inside rings ((s ∷ ss) ∷ ls) h = elim (either_true (parity (edges_of rings) (at s)) (first_odd rings ls) h) [
-  | inl l ↦ or_left (holds rings (at s)) (first_inside rings ls) (or_right (on_any (edges_of rings) (at s)) (parity (edges_of rings) (at s)) l)
-  | inr r ↦ or_right (holds rings (at s)) (first_inside rings ls) (odd_inside rings ls r)
+odd_inside rings ((s ∷ ss) ∷ ls) h = elim (either_true (parity (edges_of rings) (point_at s)) (first_odd rings ls) h) [
+  | inl l ↦ or_left (holds rings (point_at s)) (first_inside rings ls) (or_right (on_any (edges_of rings) (point_at s)) (parity (edges_of rings) (point_at s)) l)
+  | inr r ↦ or_right (holds rings (point_at s)) (first_inside rings ls) (odd_inside rings ls r)
 ]
 
 inside_odd : (rings ls : List (List Spot)) → Joined ls → first_inside rings ls ≡ true → Touch (edges_of ls) (edges_of rings) ⊎ (first_odd rings ls ≡ true)
 inside_odd rings [] j h = absurd (cc)
 inside_odd rings ([] ∷ ls) j h = absurd j
 inside_odd rings ((s ∷ []) ∷ ls) j h = absurd j
-inside_odd rings ((s ∷ t ∷ ss) ∷ ls) j h = elim (either_true (holds rings (at s)) (first_inside rings ls) h) [
-  | inl l ↦ elim (either_true (on_any (edges_of rings) (at s)) (parity (edges_of rings) (at s)) l) [
+inside_odd rings ((s ∷ t ∷ ss) ∷ ls) j h = elim (either_true (holds rings (point_at s)) (first_inside rings ls) h) [
+  | inl l ↦ elim (either_true (on_any (edges_of rings) (point_at s)) (parity (edges_of rings) (point_at s)) l) [
     | inl o ↦ inl (record {
-      z = at s;
-      first = or_left (on_edge (record { from = s; to = t }) (at s)) (list_any (λ e. on_edge e (at s)) (edges_from t ss ++ edges_of ls)) (on-from s t);
+      z = point_at s;
+      first = or_left (on_edge (record { from = s; to = t }) (point_at s)) (list_any (λ e. on_edge e (point_at s)) (edges_from t ss ++ edges_of ls)) (on-from s t);
       second = o;
     })
-    | inr o ↦ inr (or_left (parity (edges_of rings) (at s)) (first_odd rings ls) o)
+    | inr o ↦ inr (or_left (parity (edges_of rings) (point_at s)) (first_odd rings ls) o)
   ]
   | inr r ↦ elim (inside_odd rings ls j r) [
     | inl m ↦ inl (record { z = m.z; first = any-right (λ e. on_edge e m.z) (edges (s ∷ t ∷ ss)) (edges_of ls) m.first; second = m.second })
-    | inr o ↦ inr (or_right (parity (edges_of rings) (at s)) (first_odd rings ls) o)
+    | inr o ↦ inr (or_right (parity (edges_of rings) (point_at s)) (first_odd rings ls) o)
   ]
 ]
 
@@ -97,7 +100,7 @@ area_on (shape.Point s) z h = absurd (cc)
 area_on (shape.Line path) z h = absurd (cc)
 area_on (shape.Polygon rings) z h = h
 
-areas_are : (k : Shape) → (parts_of k).areas ≡ area_of k ∷ []
+pub areas_are : (k : Shape) → (parts_of k).areas ≡ area_of k ∷ []
 areas_are (shape.Empty kind) = refl
 areas_are (shape.Point s) = refl
 areas_are (shape.Line path) = refl
@@ -139,7 +142,7 @@ near_passes l a b sa sb n =
     by_cases (right_true (below l.strict (pos 0) (squared l)) (lines_pass l a b || ((first_inside (area_of a) (lines_of b) || false) || (first_inside (area_of b) (lines_of a) || false)))
     (sym (near_test_is l a b) ∙ test_misses_none l.strict (squared l) (parts_of a) (parts_of b) (sound_of a sa) (sound_of b sb) (from_near l a b n)))
   where
-    m : NearShapes l.strict (squared l) (parts_of a) (parts_of b)
+    m : NearByStatus l.strict (squared l) (parts_of a) (parts_of b)
     m = from_near l a b n
 
     bound : Below l.strict (pos 0) (squared l)
@@ -218,6 +221,6 @@ pub apart_shapes : (d : ℕ) (strict : Bool) (a b : Shape) (r t : Bounds) → Is
 apart_shapes d strict a b r t sa sb ra tb h n =
     apart_points (pos d) (omega (arith, sums)) r t n.p n.q (point_in a r sa ra n.p n.first) (point_in b t sb tb n.q n.second) (weaker strict (close_near n.p n.q d strict n.close)) h
   where
-    weaker : (strict : Bool) → NearPoints strict (pos d *ℤ pos d) n.p n.q → NearPoints false (pos d *ℤ pos d) n.p n.q
+    weaker : (strict : Bool) → SquareWithin strict (pos d *ℤ pos d) n.p n.q → SquareWithin false (pos d *ℤ pos d) n.p n.q
     weaker true h = omega (arith, sums)
     weaker false h = h

@@ -2,7 +2,8 @@
 use Rattle.std.proofs.Common.{◌≡◌, arith}
 use lib.IntN.{ℤ, pos, ◌+ℤ◌, ◌*ℤ◌, neg_ℤ}
 use lib.Signed.{◌<ℤ◌, ◌≤ℤ◌}
-use Rattle.sg_distance.proofs.Integers.{sums, mul-nonneg, mul-pos, mul-neg, neg-mul, cmp, less, same, more}
+use Rattle.sg_algebra.proofs.Ring.{sums, mul-nonneg, mul-pos, mul-neg, neg-mul}
+use Rattle.sg_algebra.specs.Orders.{cmp, less, same, more}
 
 -- products: p above 0, m below, n not below, w not above
 pub p*p : (a b : ℤ) → pos 0 <ℤ a → pos 0 <ℤ b → pos 0 <ℤ (a *ℤ b)

@@ -1,18 +1,16 @@
 -- A sound shape's lines are joined, its rings are closed, and its spots lie within the limits.
-use Rattle.std.proofs.Common.{ℕ, ◌≡◌, ◌+◌, ◌≤◌, arith, refl, sym, ap, ◌∙◌, subst, Bool, true, false, cond, List, [], ◌∷◌, ◌++◌, length, get_or, length-append, suc, zero, ◌==◌, nat_lt, Option, None, Some, option_map, nat_abs, ℤ, pos, neg_ℤ}
+use Rattle.std.proofs.Common.{ℕ, ◌≡◌, ◌+◌, ◌≤◌, arith, refl, sym, ap, ◌∙◌, subst, Bool, true, false, cond, List, [], ◌∷◌, ◌++◌, length, get_or, length-append, suc, zero, ◌==◌, nat_lt, Option, None, Some, option_map, ℤ}
 use Rattle.std.proofs.lemmas.List.{append-nil, get_or_append_left, get_or-append-add}
-use Rattle.std.proofs.lemmas.Int.{ints}
 use Rattle.std.specs.List.{All, position_from, flat_map}
-use mathlib.Core.Bool.{◌&&◌, not}
-use lib.Signed.{◌≤ℤ◌, le_z}
-use Rattle.sg_distance.proofs.Integers.{sums}
-use Rattle.sg_distance.proofs.Comparisons.{le-from_true, left_true, right_true, eq-from_true}
-use Rattle.sg_distance.specs.Edges.{IsIn}
+use mathlib.Core.Bool.{not}
+use Rattle.sg_algebra.proofs.Comparisons.{left_true, right_true, eq-from_true}
+use Rattle.sg_shape.specs.Limits.{IsIn}
+use Rattle.sg_segment.proofs.Sound.{spots_in as in_spots}
 use Rattle.sg_distance.specs.Figure.{chains, Joined, Closed, AllClosed, Sound}
 use Rattle.sg_distance.specs.Shapes.{lines_of}
 use Rattle.sg_shape.specs.Plane.{eq_z, same_spot, last_of}
 use Rattle.sg_shape.specs.Shapes.{parts_of, spots}
-use Rattle.sg_shape.specs.Sound.{IsSound, coord_ok, is_out, is_open, is_short, too_few, ring_open, first_out, or_else}
+use Rattle.sg_shape.specs.Sound.{IsSound, is_open, is_short, too_few, ring_open, first_out, or_else}
 use Rattle.sg_shape.specs.declared.spots.Spot.{Spot}
 use Rattle.sg_shape.specs.declared.shapes.Shape.{Shape}
 use Rattle.sg_shape.specs.declared.shapes.Shape.TheVariants as shape
@@ -22,18 +20,17 @@ use Rattle.sg_shape.specs.declared.shapes.ShapeFault.TheVariants as fault
 pub record Faultless (k : Shape) : Type 0 where
   pub few : too_few k ≡ None
   pub open_ring : ring_open k ≡ None
-  pub out : first_out k ≡ None
 
 faultless : (k : Shape) → IsSound k → Faultless k
-faultless k s = by_parts (nat_lt 2048 (length (spots k))) (too_few k) (ring_open k) (first_out k) refl refl refl s
+faultless k s = by_parts (nat_lt 2048 (length (spots k))) (too_few k) (ring_open k) (first_out k) refl refl s
   where
-    by_parts : (t : Bool) (a b c : Option ℕ) → too_few k ≡ a → ring_open k ≡ b → first_out k ≡ c →
+    by_parts : (t : Bool) (a b c : Option ℕ) → too_few k ≡ a → ring_open k ≡ b →
         (cond t (Some fault.TooMany) (or_else (option_map (λ ring. fault.TooFew ring) a) (or_else (option_map (λ ring. fault.RingOpen ring) b) (option_map (λ at. fault.CoordOut at) c)))) ≡ None → Faultless k
-    by_parts true a b c ea eb ec e = absurd (cc)
-    by_parts false (Some x) b c ea eb ec e = absurd (cc)
-    by_parts false None (Some x) c ea eb ec e = absurd (cc)
-    by_parts false None None (Some x) ea eb ec e = absurd (cc)
-    by_parts false None None None ea eb ec e = record { few = ea; open_ring = eb; out = ec }
+    by_parts true a b c ea eb e = absurd (cc)
+    by_parts false (Some x) b c ea eb e = absurd (cc)
+    by_parts false None (Some x) c ea eb e = absurd (cc)
+    by_parts false None None (Some x) ea eb e = absurd (cc)
+    by_parts false None None None ea eb e = record { few = ea; open_ring = eb }
 
 pub all_none : {X : Type 0} (P : X → Type 0) → All P []
 all_none P = λ n d l. absurd (omega arith)
@@ -123,24 +120,8 @@ on_lines P (shape.Point s) h =
 on_lines P (shape.Line path) h = all_cons (All P) path [] h (all_none (All P))
 on_lines P (shape.Polygon rings) h = all_rings P rings h
 
-is_in : (s : Spot) → is_out s ≡ false → IsIn s
-is_in s h = record { x = size s.x (left_true (coord_ok s.x) (coord_ok s.y) e); y = size s.y (right_true (coord_ok s.x) (coord_ok s.y) e) }
-  where
-    is_true : (b : Bool) → not b ≡ false → b ≡ true
-    is_true true e = refl
-    is_true false e = absurd (cc)
-
-    e : (coord_ok s.x && coord_ok s.y) ≡ true
-    e = is_true (coord_ok s.x && coord_ok s.y) h
-
-    size : (z : ℤ) → coord_ok z ≡ true → nat_abs z ≤ 16000000
-    size z t =
-        let a : neg_ℤ (pos 16000000) ≤ℤ z = le-from_true (neg_ℤ (pos 16000000)) z (left_true (le_z (neg_ℤ (pos 16000000)) z) (le_z z (pos 16000000)) t) in
-        let b : z ≤ℤ pos 16000000 = le-from_true z (pos 16000000) (right_true (le_z (neg_ℤ (pos 16000000)) z) (le_z z (pos 16000000)) t) in
-        omega (arith, ints, sums)
-
 pub spots_in : (k : Shape) → IsSound k → All (All IsIn) (lines_of k)
-spots_in k s = on_lines IsIn k (λ n d l. is_in (get_or (spots k) n d) (none_passes is_out 0 (spots k) (faultless k s).out n d l))
+spots_in k s = on_lines IsIn k (in_spots k s)
 
 -- ---- as figures
 pub chains_are : (k : Shape) → chains (parts_of k) ≡ lines_of k

@@ -6,20 +6,20 @@ use Rattle.sg_distance.proofs.EdgeTests.{near_test, near_tested, tested_near}
 use Rattle.sg_distance.proofs.Points.{has_status}
 use Rattle.sg_shape.specs.Plane.{Point, Parts}
 use Rattle.sg_shape.specs.Boxes.{HasPoint}
-use Rattle.sg_distance.specs.Figure.{Near, Sound}
-use Rattle.sg_distance.specs.Edges.{NearPoints}
+use Rattle.sg_distance.proofs.Nearness.{NearByEdges, SquareWithin}
+use Rattle.sg_distance.specs.Figure.{Sound}
 
 -- some point of the one and some point of the other are near, by their statuses
-pub record NearShapes (strict : Bool) (D : ℤ) (a b : Parts) : Type 0 where
+pub record NearByStatus (strict : Bool) (D : ℤ) (a b : Parts) : Type 0 where
   pub p : Point
   pub q : Point
   pub of_a : HasPoint a p
   pub of_b : HasPoint b q
-  pub near : NearPoints strict D p q
+  pub near : SquareWithin strict D p q
 
-pub test_finds : (strict : Bool) (D : ℤ) (a b : Parts) → Sound a → Sound b → near_test strict D a b ≡ true → NearShapes strict D a b
+pub test_finds : (strict : Bool) (D : ℤ) (a b : Parts) → Sound a → Sound b → near_test strict D a b ≡ true → NearByStatus strict D a b
 test_finds strict D a b sa sb t =
-    let n : Near strict D a b = tested_near strict D a b sa sb t in
+    let n : NearByEdges strict D a b = tested_near strict D a b sa sb t in
     record {
       p = n.p;
       q = n.q;
@@ -28,7 +28,7 @@ test_finds strict D a b sa sb t =
       of_b = sym (has_status b sb n.q) ∙ n.of_b;
     }
 
-pub test_misses_none : (strict : Bool) (D : ℤ) (a b : Parts) → Sound a → Sound b → NearShapes strict D a b → near_test strict D a b ≡ true
+pub test_misses_none : (strict : Bool) (D : ℤ) (a b : Parts) → Sound a → Sound b → NearByStatus strict D a b → near_test strict D a b ≡ true
 test_misses_none strict D a b sa sb n =
     near_tested strict D a b sa sb (bound_over strict D n.p n.q n.near)
     (record {

@@ -5,13 +5,19 @@ use mathlib.Core.Bool.{◌&&◌, ◌||◌}
 use mathlib.Core.Logic.{◌⊎◌, inl, inr}
 use lib.IntN.{ℤ, pos, ◌+ℤ◌, ◌-ℤ◌, ◌*ℤ◌, neg_ℤ, *ℤ_comm}
 use lib.Signed.{◌<ℤ◌, ◌≤ℤ◌, lt_z}
-use Rattle.sg_distance.proofs.Integers.{sums, nonneg_diff-mul, lt-mul_right, lt-cancel_right, mul_assoc, cmp, less, same, more}
-use Rattle.sg_distance.proofs.Comparisons.{lt-from_true, le-from_false, either_true, or_left, or_right}
-use Rattle.sg_distance.proofs.Mix.{line_at, Along, or_swap, along-on_edge, on_edge-turned}
+use Rattle.sg_algebra.proofs.Ring.{sums, nonneg_diff-mul, lt-mul_right, mul_assoc}
+use Rattle.sg_algebra.proofs.Cancelling.{lt-cancel_right}
+use Rattle.sg_algebra.specs.Orders.{cmp, less, same, more}
+use Rattle.sg_algebra.proofs.Comparisons.{lt-from_true, le-from_false, either_true, or_left, or_right}
+use Rattle.sg_distance.proofs.Mix.{line_at, Along, along-on_edge}
+use Rattle.sg_algebra.proofs.Edges.{on_edge-turned, crosses_ray-turned}
 use Rattle.sg_distance.proofs.Signs.{Ties, Alike, low_mid_1, low_mid_2, low_high_1, low_high_2, mid_mid_1, mid_mid_2, mid_high_1, mid_high_2}
 use Rattle.sg_distance.proofs.Quad.{side_at, Weights, weights, ties-of, Crossing, crossing_of}
 use Rattle.sg_shape.specs.Plane.{Point, on_edge, is_above, passes_right, crosses_ray, edges_from, edges_of, last_of}
-use Rattle.sg_distance.specs.Figure.{at, xor, parity, Closed}
+use Rattle.sg_segment.proofs.Parity.{parity-append}
+use Rattle.sg_segment.specs.Sides.{point_at}
+use Rattle.sg_segment.specs.Statuses.{xor, parity}
+use Rattle.sg_distance.specs.Figure.{Closed}
 use Rattle.sg_shape.specs.declared.spots.Spot.{Spot}
 use Rattle.sg_shape.specs.declared.spots.Edge.{Edge}
 
@@ -90,7 +96,7 @@ Kept p q u v = Met p q (edge u v) ⊎ (xor (crosses_ray (edge u v) p) (crosses_r
 
 met : (p q : Point) (u v : Spot) → Alike (line_of u v q) (neg_ℤ (line_of u v p)) (neg_ℤ (side_of p q v)) (side_of p q u) → Met p q (edge u v)
 met p q u v a =
-    let c : Crossing p q (at u) (at v) = crossing_of p q u v (line_of u v q) (neg_ℤ (line_of u v p)) (neg_ℤ (side_of p q v)) (side_of p q u) a
+    let c : Crossing p q (point_at u) (point_at v) = crossing_of p q u v (line_of u v q) (neg_ℤ (line_of u v p)) (neg_ℤ (side_of p q v)) (side_of p q u) a
     (weights p.x p.y (pos p.n) q.x q.y (pos q.n) u.x u.y v.x v.y) in
     record { z = c.z; along = c.first; on = along-on_edge u v c.z c.second }
 
@@ -194,9 +200,6 @@ walk_up p q u v rise height =
     by_classes true false true false a b c d = mid_mid a b c d (lt_z (side_of p q u) (pos 0)) (lt_z (side_of p q v) (pos 0)) refl refl
     by_classes true false true true a b c d = mid_high a b c d (passes_right u v q) (lt_z (side_of p q u) (pos 0)) refl refl
 
-crosses-turned : (u v : Spot) (p : Point) → crosses_ray (edge v u) p ≡ crosses_ray (edge u v) p
-crosses-turned u v p = or_swap (is_above u p && not (is_above v p) && passes_right v u p) (is_above v p && not (is_above u p) && passes_right u v p)
-
 -- q isn't below p
 walk_edge_up : (p q : Point) (u v : Spot) → (p.y *ℤ pos q.n) ≤ℤ (q.y *ℤ pos p.n) → Kept p q u v
 walk_edge_up p q u v h = elim (cmp u.y v.y) [
@@ -206,8 +209,8 @@ walk_edge_up p q u v h = elim (cmp u.y v.y) [
 ]
   where
     turn : Kept p q v u → Kept p q u v
-    turn (inl m) = inl (record { z = m.z; along = m.along; on = on_edge-turned v u m.z m.on })
-    turn (inr e) = inr (rw (crosses-turned v u p, crosses-turned v u q) (e ∙ xor_swap (gap p q v) (gap p q u)))
+    turn (inl m) = inl (record { z = m.z; along = m.along; on = on_edge-turned v u m.z ∙ m.on })
+    turn (inr e) = inr (rw (crosses_ray-turned v u p, crosses_ray-turned v u q) (e ∙ xor_swap (gap p q v) (gap p q u)))
 
 -- ---- a chain of edges, and rings
 -- some edge is met between p and q
@@ -268,20 +271,6 @@ walk_chain p q h s (t ∷ ts) = join (walk_edge_up p q s t h) (walk_chain p q h 
 
 abbrev pub Even : Point → Point → List Edge → Type 0
 Even p q es = MetIn p q es ⊎ (xor (parity es p) (parity es q) ≡ false)
-
-pub parity-append : (es fs : List Edge) (p : Point) → parity (es ++ fs) p ≡ xor (parity es p) (parity fs p)
-parity-append [] fs p = refl
-parity-append (e ∷ es) fs p = ap (xor (crosses_ray e p)) (parity-append es fs p) ∙ regroup (crosses_ray e p) (parity es p) (parity fs p)
-  where
-    regroup : (a b c : Bool) → xor a (xor b c) ≡ xor (xor a b) c
-    regroup true true true = refl
-    regroup true true false = refl
-    regroup true false true = refl
-    regroup true false false = refl
-    regroup false true true = refl
-    regroup false true false = refl
-    regroup false false true = refl
-    regroup false false false = refl
 
 pub any-left : (f : Edge → Bool) (es fs : List Edge) → list_any f es ≡ true → list_any f (es ++ fs) ≡ true
 any-left f [] fs h = absurd (cc)

@@ -5,9 +5,10 @@ use mathlib.Core.Bool.{◌||◌}
 use mathlib.Core.Logic.{inl, inr}
 use lib.IntN.{ℤ, pos, ◌+ℤ◌, ◌-ℤ◌, ◌*ℤ◌, *ℤ_comm, zero-*ℤ}
 use lib.Signed.{◌<ℤ◌, ◌≤ℤ◌}
-use Rattle.sg_distance.proofs.Integers.{sums, products, nonneg_diff-mul, cmp, less, same, more}
+use Rattle.sg_algebra.proofs.Ring.{sums, products, nonneg_diff-mul}
+use Rattle.sg_algebra.specs.Orders.{cmp, less, same, more}
 use Rattle.sg_distance.proofs.Signs.{n*n, p*p}
-use Rattle.sg_distance.proofs.Comparisons.{either_true, or_left, or_right}
+use Rattle.sg_algebra.proofs.Comparisons.{either_true, or_left, or_right}
 use Rattle.sg_distance.proofs.Below.{below-le, below-mul, below-cancel, below-at, square-within}
 use Rattle.sg_distance.proofs.Mix.{Along, on-from}
 use Rattle.sg_distance.proofs.Walk.{walk_rings, any-left, any-right}
@@ -16,13 +17,15 @@ use Rattle.sg_distance.proofs.Ray.{both_odd}
 use Rattle.sg_distance.proofs.Pairs.{near-turned}
 use Rattle.sg_distance.proofs.Found.{bound_over, near_self}
 use Rattle.sg_shape.specs.Plane.{Point, Parts, on_edge, edges, edges_of, edges_from}
-use Rattle.sg_distance.specs.Figure.{at, parity, Closed, on_any, chains, bones, rings_of, dots, inside_any, has, Near, Joined, AllClosed, Sound}
+use Rattle.sg_segment.specs.Sides.{point_at}
+use Rattle.sg_segment.specs.Statuses.{parity}
+use Rattle.sg_distance.specs.Figure.{Closed, on_any, chains, bones, rings_of, dots, inside_any, has, Joined, AllClosed, Sound}
+use Rattle.sg_distance.proofs.Nearness.{NearByEdges, Below, SquareWithin}
 use Rattle.sg_shape.specs.declared.spots.Spot.{Spot}
 use Rattle.sg_shape.specs.declared.spots.Edge.{Edge}
-use Rattle.sg_distance.specs.Edges.{Below, NearPoints}
 
 -- ---- a point on the way is no farther
-pub near_along : (strict : Bool) (D : ℤ) (p q z : Point) → Along p q z → NearPoints strict D p q → NearPoints strict D z q
+pub near_along : (strict : Bool) (D : ℤ) (p q z : Point) → Along p q z → SquareWithin strict D p q → SquareWithin strict D z q
 near_along strict D p q z a h =
     by_numbers p.x p.y (pos p.n) q.x q.y (pos q.n) z.x z.y (pos z.n) a.k a.s a.t a.in_x a.in_y a.in_n a.k_over a.s_over a.t_over
     (omega (arith, sums, p.is_over)) (omega (arith, sums, q.is_over)) (omega (arith, sums, z.is_over)) (bound_over strict D p q h) h
@@ -151,7 +154,7 @@ pub record NearBones (strict : Bool) (D : ℤ) (a b : Parts) : Type 0 where
   pub w : Point
   pub of_a : on_any (bones a) z ≡ true
   pub of_b : on_any (bones b) w ≡ true
-  pub near : NearPoints strict D z w
+  pub near : SquareWithin strict D z w
 
 pub data Shown (strict : Bool) (D : ℤ) (a b : Parts) : Type 0 where
   by_bones : NearBones strict D a b → Shown strict D a b
@@ -172,7 +175,7 @@ in_second strict D a b sb o r m q h k = elim (reach_lines r (closed_of r b.areas
 ]
 
 -- from a point on the lines of a, near a point of b
-from_bones : (strict : Bool) (D : ℤ) (a b : Parts) → Sound b → (p q : Point) → on_any (bones a) p ≡ true → has b q ≡ true → NearPoints strict D p q → Shown strict D a b
+from_bones : (strict : Bool) (D : ℤ) (a b : Parts) → Sound b → (p q : Point) → on_any (bones a) p ≡ true → has b q ≡ true → SquareWithin strict D p q → Shown strict D a b
 from_bones strict D a b sb p q op hq n = elim (either_true (on_any (bones b) q) (inside_any b.areas q) hq) [
   | inl l ↦ by_bones (record { z = p; w = q; of_a = op; of_b = l; near = n })
   | inr l ↦ go (odd_of b.areas q l)
@@ -186,7 +189,7 @@ from_bones strict D a b sb p q op hq n = elim (either_true (on_any (bones b) q) 
     ]
 
 -- complete
-pub near_shown : (strict : Bool) (D : ℤ) (a b : Parts) → Sound a → Sound b → Near strict D a b → Shown strict D a b
+pub near_shown : (strict : Bool) (D : ℤ) (a b : Parts) → Sound a → Sound b → NearByEdges strict D a b → Shown strict D a b
 near_shown strict D a b sa sb n = elim (either_true (on_any (bones a) n.p) (inside_any a.areas n.p) n.of_a) [
   | inl l ↦ from_bones strict D a b sb n.p n.q l n.of_b n.near
   | inr l ↦ from_area (odd_of a.areas n.p l)
@@ -235,10 +238,10 @@ first_in : (r ls : List (List Spot)) → Joined ls → first_inside r ls ≡ tru
 first_in r [] j h = absurd (cc)
 first_in r ([] ∷ ls) j h = absurd j
 first_in r ((s ∷ []) ∷ ls) j h = absurd j
-first_in r ((s ∷ t ∷ ss) ∷ ls) j h = elim (either_true (holds r (at s)) (first_inside r ls) h) [
+first_in r ((s ∷ t ∷ ss) ∷ ls) j h = elim (either_true (holds r (point_at s)) (first_inside r ls) h) [
   | inl l ↦ record {
-    z = at s;
-    on = or_left (on_edge (record { from = s; to = t }) (at s)) (list_any (λ e. on_edge e (at s)) (edges_from t ss ++ edges_of ls)) (on-from s t);
+    z = point_at s;
+    on = or_left (on_edge (record { from = s; to = t }) (point_at s)) (list_any (λ e. on_edge e (point_at s)) (edges_from t ss ++ edges_of ls)) (on-from s t);
     inside = l;
   }
   | inr l ↦
@@ -258,7 +261,7 @@ enclosed_by (a ∷ as') ls j h = elim (either_true (first_inside a ls) (encloses
   | inr l ↦ let e : EnclosedBy as' ls = enclosed_by as' ls j l in record { r = e.r; among = there e.among; first = e.first }
 ]
 
-pub shown_near : (strict : Bool) (D : ℤ) (a b : Parts) → Sound a → Sound b → Below strict (pos 0) D → Shown strict D a b → Near strict D a b
+pub shown_near : (strict : Bool) (D : ℤ) (a b : Parts) → Sound a → Sound b → Below strict (pos 0) D → Shown strict D a b → NearByEdges strict D a b
 shown_near strict D a b sa sb o (by_bones n) = record {
   p = n.z;
   q = n.w;

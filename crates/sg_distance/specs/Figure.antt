@@ -1,15 +1,10 @@
--- Figures of points, lines and areas, and when two of them are near.
-use Rattle.std.specs.Prelude.{◌≡◌, Bool, true, false, not, ◌||◌, List, [], ◌∷◌, ◌++◌, ℤ}
-use Rattle.std.proofs.Common.{lit≤}
+-- Figures of points, lines and areas, by their edges.
+use Rattle.std.specs.Prelude.{◌≡◌, Bool, ◌||◌, List, [], ◌∷◌, ◌++◌}
 use Rattle.std.specs.List.{list_any}
 use Rattle.sg_shape.specs.declared.spots.Spot.{Spot}
 use Rattle.sg_shape.specs.declared.spots.Edge.{Edge}
-use Rattle.sg_shape.specs.Plane.{Point, Parts, on_edge, crosses_ray, edges_of, last_of}
-use Rattle.sg_distance.specs.Edges.{NearPoints}
-
--- a spot as a point
-abbrev pub at : Spot → Point
-at s = record { x = s.x; y = s.y; n = 1; is_over = lit≤ tt }
+use Rattle.sg_shape.specs.Plane.{Point, Parts, on_edge, edges_of, last_of}
+use Rattle.sg_segment.specs.Statuses.{parity}
 
 -- a point, as a line from itself to itself
 abbrev pub dots : List Spot → List (List Spot)
@@ -30,29 +25,12 @@ bones k = edges_of (chains k)
 abbrev pub on_any : List Edge → Point → Bool
 on_any es p = list_any (λ e. on_edge e p) es
 
-abbrev pub xor : Bool → Bool → Bool
-xor true b = not b
-xor false b = b
-
--- an odd number of the edges crosses the point's rightward ray
-abbrev pub parity : List Edge → Point → Bool
-parity [] p = false
-parity (e ∷ es) p = xor (crosses_ray e p) (parity es p)
-
 abbrev pub inside_any : List (List (List Spot)) → Point → Bool
 inside_any as' p = list_any (λ a. parity (edges_of a) p) as'
 
 -- the point is In or Bd
 abbrev pub has : Parts → Point → Bool
 has k p = on_any (bones k) p || inside_any k.areas p
-
--- some point of the one is near some point of the other
-pub record Near (strict : Bool) (D : ℤ) (a b : Parts) : Type 0 where
-  pub p : Point
-  pub q : Point
-  pub of_a : has a p ≡ true
-  pub of_b : has b q ≡ true
-  pub near : NearPoints strict D p q
 
 -- each line has two spots or more, and each ring's last is its first
 abbrev pub Joined : List (List Spot) → Type 0

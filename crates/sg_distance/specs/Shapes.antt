@@ -8,7 +8,8 @@ use Rattle.sg_shape.specs.declared.shapes.Shape.{Shape}
 use Rattle.sg_shape.specs.declared.shapes.Shape.TheVariants as shape
 use Rattle.sg_shape.specs.Plane.{edges_of}
 use Rattle.sg_distance.specs.declared.edges.Limit.{Limit}
-use Rattle.sg_distance.specs.Figure.{at, parity}
+use Rattle.sg_segment.specs.Sides.{point_at}
+use Rattle.sg_segment.specs.Statuses.{parity}
 use Rattle.sg_distance.specs.Edges.{edges_test}
 
 -- the lines and rings of a shape; a point is the line from itself to itself
@@ -37,7 +38,7 @@ is_near_any l fs e = list_any (are_near l e) fs
 abbrev pub first_odd : List (List Spot) → List (List Spot) → Bool
 first_odd rings [] = false
 first_odd rings ([] ∷ ls) = first_odd rings ls
-first_odd rings ((s ∷ ss) ∷ ls) = parity (edges_of rings) (at s) || first_odd rings ls
+first_odd rings ((s ∷ ss) ∷ ls) = parity (edges_of rings) (point_at s) || first_odd rings ls
 
 -- some edges are near, or a first spot of one lies in the other's area
 abbrev pub shapes_test : Limit → Shape → Shape → Bool

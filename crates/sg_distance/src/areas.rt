@@ -1,10 +1,11 @@
 ghost use Rattle.std.specs.Prelude.{◌≡◌, [], ◌∷◌, All};
 ghost use Rattle.sg_shape.specs.Plane.{edges, edges_of, crosses_ray, is_above, passes_right};
-ghost use Rattle.sg_distance.specs.Figure.{at, parity, xor};
-ghost use Rattle.sg_distance.specs.Edges.{IsIn};
+ghost use Rattle.sg_segment.specs.Sides.{point_at};
+ghost use Rattle.sg_segment.specs.Statuses.{parity, xor};
+ghost use Rattle.sg_shape.specs.Limits.{IsIn};
 ghost use Rattle.sg_distance.specs.Shapes.{area_of, first_odd, lines_of};
 
-use crate::edges::across;
+use sg_segment::orient;
 use sg_shape::{Edge, Path, Shape, Spot};
 
 /// Whether the first spot of some line or ring of the second shape has an odd number of the first one's
@@ -68,7 +69,7 @@ fn encloses_first_of(rings: &[Path], path: &[Spot]) -> bool
 fn is_inside(rings: &[Path], spot: Spot) -> bool
     requires first { All (All IsIn) rings.now }
     requires second { IsIn spot }
-    ensures { result ≡ parity (edges_of rings.now) (at spot) }
+    ensures { result ≡ parity (edges_of rings.now) (point_at spot) }
 {
     let mut inside = false;
     for ring in rings {
@@ -87,7 +88,7 @@ fn differ(a: bool, b: bool) -> bool
 fn is_inside_ring(ring: &[Spot], spot: Spot) -> bool
     requires first { All IsIn ring.now }
     requires second { IsIn spot }
-    ensures { result ≡ parity (edges ring.now) (at spot) }
+    ensures { result ≡ parity (edges ring.now) (point_at spot) }
 {
     let mut inside = false;
     for at in 1..ring.len() {
@@ -105,7 +106,7 @@ fn crosses_ray(e: Edge, spot: Spot) -> bool
     requires from { IsIn e.from }
     requires to { IsIn e.to }
     requires second { IsIn spot }
-    ensures { result ≡ crosses_ray e (at spot) }
+    ensures { result ≡ crosses_ray e (point_at spot) }
 {
     match (is_above(e.from, spot), is_above(e.to, spot)) {
         (false, true) => passes_right(e.from, e.to, spot),
@@ -115,7 +116,7 @@ fn crosses_ray(e: Edge, spot: Spot) -> bool
 }
 
 fn is_above(end: Spot, spot: Spot) -> bool
-    ensures { result ≡ is_above end (at spot) }
+    ensures { result ≡ is_above end (point_at spot) }
 {
     spot.y < end.y
 }
@@ -125,7 +126,7 @@ fn passes_right(low: Spot, high: Spot, spot: Spot) -> bool
     requires low { IsIn low }
     requires high { IsIn high }
     requires second { IsIn spot }
-    ensures { result ≡ passes_right low high (at spot) }
+    ensures { result ≡ passes_right low high (point_at spot) }
 {
-    0 < across(low, high, spot)
+    0 < orient(low, high, spot)
 }

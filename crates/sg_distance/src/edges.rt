@@ -1,9 +1,12 @@
 ghost use Rattle.std.specs.Prelude.{◌≡◌, ◌≤◌, nat_abs, pos};
 ghost use lib.IntN.{◌+ℤ◌, ◌-ℤ◌, ◌*ℤ◌};
-ghost use Rattle.sg_distance.specs.Edges.{cross_at, dot_at, gap_at, below, foot_test, spot_test, cross_test, edges_test, one_side, two_sides, IsIn};
+ghost use Rattle.sg_segment.specs.Sides.{cross};
+ghost use Rattle.sg_distance.specs.Edges.{dot_at, gap_at, below, foot_test, spot_test, cross_test, edges_test, one_side, two_sides};
+ghost use Rattle.sg_shape.specs.Limits.{IsIn};
 ghost use Rattle.sg_distance.specs.Shapes.{are_near};
 
 use crate::boxes::{are_apart, box_of};
+use sg_segment::{difference, narrow_product, orient, product};
 use sg_shape::{Edge, Spot};
 
 /// A distance that two points are to meet: below `distance` where it is strict, else at most that.
@@ -12,24 +15,6 @@ pub struct Limit {
     /// In units of the coordinates: 0 to 64,000,000.
     pub distance: u32,
     pub strict: bool,
-}
-
-fn difference(a: i32, b: i32) -> i64
-    requires first { nat_abs a ≤ 16000000 }
-    requires second { nat_abs b ≤ 16000000 }
-    ensures value { result ≡ a -ℤ b }
-    ensures small { nat_abs result ≤ 32000000 }
-{
-    i64::from(a) - i64::from(b)
-}
-
-fn product(a: i64, b: i64) -> i64
-    requires first { nat_abs a ≤ 32000000 }
-    requires second { nat_abs b ≤ 32000000 }
-    ensures value { result ≡ a *ℤ b }
-    ensures small { nat_abs result ≤ 1024000000000000 }
-{
-    a * b
 }
 
 fn total(a: i64, b: i64) -> i64
@@ -41,28 +26,6 @@ fn total(a: i64, b: i64) -> i64
     a + b
 }
 
-fn rest(a: i64, b: i64) -> i64
-    requires first { nat_abs a ≤ 1024000000000000 }
-    requires second { nat_abs b ≤ 1024000000000000 }
-    ensures value { result ≡ a -ℤ b }
-    ensures small { nat_abs result ≤ 2048000000000000 }
-{
-    a - b
-}
-
-/// Where `c` lies across the edge from `a` to `b`: above 0 on its left.
-pub fn across(a: Spot, b: Spot, c: Spot) -> i64
-    requires first { IsIn a }
-    requires second { IsIn b }
-    requires third { IsIn c }
-    ensures value { result ≡ cross_at a b c }
-    ensures small { nat_abs result ≤ 2048000000000000 }
-{
-    let rise = product(difference(c.y, a.y), difference(b.x, a.x));
-    let run = product(difference(c.x, a.x), difference(b.y, a.y));
-    rest(rise, run)
-}
-
 /// Where `c` lies along the edge from `a` to `b`: 0 at `a`.
 fn along(a: Spot, b: Spot, c: Spot) -> i64
     requires first { IsIn a }
@@ -71,18 +34,9 @@ fn along(a: Spot, b: Spot, c: Spot) -> i64
     ensures value { result ≡ dot_at a b c }
     ensures small { nat_abs result ≤ 2048000000000000 }
 {
-    let run = product(difference(c.x, a.x), difference(b.x, a.x));
-    let rise = product(difference(c.y, a.y), difference(b.y, a.y));
+    let run = narrow_product(difference(c.x, a.x), difference(b.x, a.x));
+    let rise = narrow_product(difference(c.y, a.y), difference(b.y, a.y));
     total(run, rise)
-}
-
-/// Their product.
-fn wide(a: i64, b: i64) -> i128
-    requires first { nat_abs a ≤ 4096000000000000 }
-    requires second { nat_abs b ≤ 4096000000000000 }
-    ensures { result ≡ a *ℤ b }
-{
-    i128::from(a) * i128::from(b)
 }
 
 /// The square of a distance.
@@ -101,8 +55,8 @@ fn square_below(strict: bool, a: i64, b: i64, c: i64) -> bool
     requires third { nat_abs c ≤ 4096000000000000 }
     ensures { result ≡ below strict (a *ℤ a) (b *ℤ c) }
 {
-    let square = wide(a, a);
-    let bound = wide(b, c);
+    let square = product(i128::from(a), i128::from(a));
+    let bound = product(i128::from(b), i128::from(c));
     if strict {
         square < bound
     } else {
@@ -133,7 +87,7 @@ fn foot_is_near(strict: bool, bound: i64, c: Spot, e: Edge) -> bool
     if length <= place {
         return false;
     }
-    square_below(strict, across(e.from, e.to, c), bound, length)
+    square_below(strict, orient(e.from, e.to, c), bound, length)
 }
 
 /// Whether `c` is near the edge.
@@ -175,10 +129,10 @@ fn crosses(e: Edge, f: Edge) -> bool
     requires fourth { IsIn f.to }
     ensures { result ≡ cross_test e f }
 {
-    if together(across(f.from, f.to, e.from), across(f.from, f.to, e.to)) {
+    if together(orient(f.from, f.to, e.from), orient(f.from, f.to, e.to)) {
         return false;
     }
-    apart(across(e.from, e.to, f.from), across(e.from, e.to, f.to))
+    apart(orient(e.from, e.to, f.from), orient(e.from, e.to, f.to))
 }
 
 /// Whether some point of the one edge and some point of the other have a squared distance below `bound`, or at most.

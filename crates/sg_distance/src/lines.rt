@@ -2,7 +2,7 @@ ghost use Rattle.std.specs.Prelude.{◌≡◌, ◌≤◌, All};
 ghost use Rattle.std.specs.List.{list_any};
 ghost use Rattle.sg_shape.specs.Bounds.{IsInside};
 ghost use Rattle.sg_shape.specs.Plane.{edges, edges_of};
-ghost use Rattle.sg_distance.specs.Edges.{IsIn};
+ghost use Rattle.sg_shape.specs.Limits.{IsIn};
 ghost use Rattle.sg_distance.specs.Shapes.{are_near, is_near_any, lines_of};
 
 use crate::boxes::{are_apart, box_of};

@@ -2,7 +2,9 @@
 use Rattle.std.proofs.Common.{◌≡◌, arith}
 use lib.IntN.{ℤ, pos, ◌+ℤ◌, ◌-ℤ◌, ◌*ℤ◌, neg_ℤ, zero-*ℤ}
 use lib.Signed.{◌<ℤ◌, ◌≤ℤ◌}
-use Rattle.sg_plane.proofs.Ring.{sums, products, mul-nonneg, mul-pos, nonneg_diff-mul, lt-mul_right, le-cancel_right, Cmp, less, same, more, cmp}
+use Rattle.sg_algebra.proofs.Ring.{sums, products, mul-nonneg, mul-pos, nonneg_diff-mul, lt-mul_right}
+use Rattle.sg_algebra.proofs.Cancelling.{le-cancel_right}
+use Rattle.sg_algebra.specs.Orders.{Cmp, less, same, more, cmp}
 
 pub data Alike (a b : ℤ) : Type 0 where
   over : pos 0 <ℤ a → pos 0 <ℤ b → Alike a b

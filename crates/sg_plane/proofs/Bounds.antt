@@ -8,8 +8,8 @@ use mathlib.Core.Bool.{◌&&◌, ◌||◌}
 use mathlib.Core.Logic.{◌⊎◌, inl, inr}
 use lib.IntN.{ℤ, pos, ◌-ℤ◌, ◌*ℤ◌}
 use lib.Signed.{◌<ℤ◌, ◌≤ℤ◌, le_z}
-use Rattle.sg_plane.proofs.Ring.{sums, nonneg_diff-mul}
-use Rattle.sg_plane.proofs.Comparisons.{le-from_true, le-from_false, lt-from_true, eq-from_true, left_true, right_true, either_true, or_left, or_right}
+use Rattle.sg_algebra.proofs.Ring.{sums, nonneg_diff-mul}
+use Rattle.sg_algebra.proofs.Comparisons.{le-from_true, le-from_false, lt-from_true, eq-from_true, left_true, right_true, either_true, or_left, or_right}
 use Rattle.sg_plane.proofs.Totals.{total, ind}
 use Rattle.sg_shape.specs.declared.spots.Spot.{Spot}
 use Rattle.sg_shape.specs.declared.spots.Edge.{Edge}

@@ -4,8 +4,10 @@ use mathlib.Core.Bool.{◌&&◌, ◌||◌}
 use mathlib.Core.Logic.{◌⊎◌, inl, inr}
 use lib.IntN.{ℤ, pos, ◌-ℤ◌, ◌*ℤ◌, neg_ℤ, *ℤ_comm}
 use lib.Signed.{◌<ℤ◌, ◌≤ℤ◌, lt_z}
-use Rattle.sg_plane.proofs.Ring.{sums, products, nonneg_diff-mul, lt-mul_right, lt-cancel_right, Cmp, less, same, more, cmp}
-use Rattle.sg_plane.proofs.Comparisons.{eq-from_true, right_true}
+use Rattle.sg_algebra.proofs.Ring.{sums, products, nonneg_diff-mul, lt-mul_right}
+use Rattle.sg_algebra.proofs.Cancelling.{lt-cancel_right}
+use Rattle.sg_algebra.specs.Orders.{Cmp, less, same, more, cmp}
+use Rattle.sg_algebra.proofs.Comparisons.{eq-from_true, right_true}
 use Rattle.sg_plane.proofs.Totals.{total-append}
 use Rattle.sg_plane.proofs.Totals.{total, ind}
 use Rattle.sg_shape.specs.declared.spots.Spot.{Spot}

@@ -2,8 +2,7 @@
 use Rattle.std.proofs.Common.{◌≡◌, refl, sym, ap, ◌∙◌, subst, Bool, true, false, not, List, ◌++◌}
 use Rattle.std.specs.Prelude.{◌↔◌, IsTrue}
 use mathlib.Core.Bool.{◌&&◌}
-use Rattle.sg_plane.proofs.Comparisons.{left_true, right_true, both, same_test}
-use Rattle.sg_plane.proofs.Comparisons.{is_false}
+use Rattle.sg_algebra.proofs.Comparisons.{left_true, right_true, both, same_test, is_false}
 use Rattle.sg_shape.specs.declared.cells.CellBox.{CellBox}
 use Rattle.sg_shape.specs.declared.matrices.Matrix.{Matrix}
 use Rattle.sg_shape.specs.declared.shapes.Shape.{Shape}

@@ -9,7 +9,7 @@ use Rattle.sg_shape.specs.declared.shapes.Shape.{Shape}
 use Rattle.sg_shape.specs.declared.shapes.Shape.TheVariants as shape
 use Rattle.sg_shape.specs.Plane.{In, Out}
 use Rattle.sg_plane.specs.Decisions.{meets, related, has_points, meets_box, covers_box, leaves_box}
-use Rattle.sg_plane.specs.Reach.{filled, moved_out}
+use Rattle.sg_shape.specs.Grown.{moved_within, as_shape}
 
 abbrev spot : ℕ → ℕ → Spot
 spot x y = record { x = pos x; y = pos y }
@@ -82,8 +82,8 @@ outside = refl
 abbrev bounds : ℕ → ℕ → ℕ → ℕ → Bounds
 bounds a b c d = record { xmin = pos a; ymin = pos b; xmax = pos c; ymax = pos d }
 
-a_line : filled (bounds 1 2 1 5) ≡ record { points = []; lines = (spot 1 2 ∷ spot 1 5 ∷ []) ∷ []; areas = [] }
+a_line : as_shape (bounds 1 2 1 5) ≡ shape.Line (spot 1 2 ∷ spot 1 5 ∷ [])
 a_line = refl
 
-cut_at_the_left : moved_out (bounds 0 0 100 100) 3 (bounds 2 4 5 98) ≡ bounds 0 1 8 100
+cut_at_the_left : moved_within (bounds 0 0 100 100) (bounds 2 4 5 98) 3 ≡ bounds 0 1 8 100
 cut_at_the_left = refl

@@ -1,23 +1,34 @@
 -- A shape of all points of its bounds, and what is near a shape lies in the grown one.
-use Rattle.std.proofs.Common.{ℕ, ◌≡◌, ◌+◌, arith, refl, sym, ap, ◌∙◌, Bool, true, false, cond, List, [], ◌∷◌}
+use Rattle.std.proofs.Common.{ℕ, ◌≡◌, ◌+◌, arith, refl, sym, ap, ◌∙◌, subst, Bool, true, false, cond, int_eq, int_lt, List, [], ◌∷◌}
+use Rattle.std.specs.Int.{int_min, int_max}
+use Rattle.std.proofs.lemmas.Bool.Decides.{Decides-int_eq}
 use Rattle.std.specs.List.{list_any, list_all, count_by}
 use mathlib.Core.Bool.{◌&&◌, ◌||◌}
 use mathlib.Core.Logic.{◌⊎◌, inl, inr}
 use lib.IntN.{ℤ, pos, ◌+ℤ◌, ◌-ℤ◌, ◌*ℤ◌, neg_ℤ, *ℤ_comm, zero-*ℤ, *ℤ-zero}
 use lib.Signed.{◌<ℤ◌, ◌≤ℤ◌, lt_z, le_z}
-use Rattle.sg_plane.proofs.Ring.{sums, products, mul-nonneg, mul-pos, nonneg_diff-mul, lt-mul_right, lt-cancel_right, le-cancel_right, Cmp, less, same, more, cmp}
-use Rattle.sg_plane.proofs.Comparisons.{le-from_true, true-from_le, true-from_lt, true-from_eq, eq-from_true, left_true, right_true, both, either_true, or_left, or_right, lt-from_true}
-use Rattle.sg_plane.proofs.Edges.{on_edge-flat, on_edge-turned, crosses_ray-flat}
-use Rattle.sg_plane.proofs.Comparisons.{is_false, false-from_le}
+use Rattle.sg_algebra.proofs.Ring.{sums, products, mul-nonneg, mul-pos, nonneg_diff-mul, lt-mul_right}
+use Rattle.sg_algebra.proofs.Cancelling.{lt-cancel_right, le-cancel_right}
+use Rattle.sg_algebra.specs.Orders.{Cmp, less, same, more, cmp}
+use Rattle.sg_algebra.proofs.Comparisons.{le-from_true, true-from_le, true-from_lt, true-from_eq, left_true, right_true, both, either_true, or_left, or_right, lt-from_true, is_false, false-from_le}
+use Rattle.sg_algebra.proofs.Edges.{between_up, on_edge-flat, on_edge-turned, crosses_ray-flat}
 use Rattle.sg_plane.proofs.Totals.{ind}
 use Rattle.sg_shape.specs.declared.spots.Spot.{Spot}
 use Rattle.sg_shape.specs.declared.spots.Edge.{Edge}
 use Rattle.sg_shape.specs.Plane.{Point, Parts, In, Bd, Out, same_spot, lines_status, is_in, is_bd, odd, eq_z, is_at, between, on_edge, crosses_ray, edges_of, ends_at}
 use Rattle.sg_shape.specs.declared.bounds.Bounds.{Bounds}
+use Rattle.sg_shape.specs.declared.shapes.Shape.TheVariants as shape
+use Rattle.sg_shape.specs.Shapes.{parts_of}
+use Rattle.sg_shape.specs.Grown.{moved_within, as_shape}
+use Rattle.sg_shape.specs.Near.{square, apart, is_within}
 use Rattle.sg_shape.specs.Boxes.{is_held, within as side_within, HasPoint, InBox}
-use Rattle.sg_plane.specs.Reach.{is_closed, are_closed, spots_of, lies_in, all_in, box_of, lesser, greater, moved_out, spot_at, filled, square, gap_x, gap_y, far, NearPoints, LiesInBounds, IsFilled, ReachesNear}
+use Rattle.sg_plane.specs.Reach.{is_closed, are_closed, spots_of, lies_in, all_in, box_of, LiesInBounds, IsFilled, ReachesNear}
 use Rattle.sg_plane.proofs.Lists.{Each, each_more}
 use Rattle.sg_plane.proofs.Bounds.{count-total, Inside, Within, within}
+
+-- a spot by its coordinates
+abbrev pub spot_at : ℤ → ℤ → Spot
+spot_at x y = record { x = x; y = y }
 
 -- ---- one edge or a ring of four
 line_is : (o a : Bool) → a ≡ true →
@@ -33,17 +44,14 @@ area_is false true e = refl
 area_is false false (inl e) = absurd (cc)
 area_is false false (inr e) = absurd (cc)
 
-line_has : (s t : Spot) (p : Point) → on_edge (record { from = s; to = t }) p ≡ true → HasPoint (record { points = []; lines = (s ∷ t ∷ []) ∷ []; areas = [] }) p
+line_has : (s t : Spot) (p : Point) → on_edge (record { from = s; to = t }) p ≡ true → HasPoint (parts_of (shape.Line (s ∷ t ∷ []))) p
 line_has s t p h = line_is (odd (count_by (ends_at p) ((s ∷ t ∷ []) ∷ []))) (on_edge (record { from = s; to = t }) p) h
 
 area_has : (r : List Spot) (p : Point) → (list_any (λ e. on_edge e p) (edges_of (r ∷ [])) ≡ true) ⊎ (odd (count_by (λ e. crosses_ray e p) (edges_of (r ∷ []))) ≡ true) →
-    HasPoint (record { points = []; lines = []; areas = (r ∷ []) ∷ [] }) p
+    HasPoint (parts_of (shape.Polygon (r ∷ []))) p
 area_has r p h = area_is (list_any (λ e. on_edge e p) (edges_of (r ∷ []))) (odd (count_by (λ e. crosses_ray e p) (edges_of (r ∷ [])))) h
 
 -- ---- upright and level edges
-ordered_between : (a b v : ℤ) → a ≤ℤ v → v ≤ℤ b → between a b v ≡ true
-ordered_between a b v h k = or_left (le_z a v && le_z v b) (le_z b v && le_z v a) (both (le_z a v) (le_z v b) (true-from_le a v h) (true-from_le v b k))
-
 upright_on : (x y0 y1 : ℤ) (p : Point) → p.x ≡ x *ℤ pos p.n → (y0 *ℤ pos p.n) ≤ℤ p.y → p.y ≤ℤ (y1 *ℤ pos p.n) → on_edge (record { from = spot_at x y0; to = spot_at x y1 }) p ≡ true
 upright_on x y0 y1 p e h k =
     let a : p.x -ℤ x *ℤ pos p.n ≡ pos 0 = omega (arith, sums, e) in
@@ -52,12 +60,12 @@ upright_on x y0 y1 p e h k =
     both (eq_z ((p.x -ℤ x *ℤ pos p.n) *ℤ (y1 -ℤ y0)) ((p.y -ℤ y0 *ℤ pos p.n) *ℤ (x -ℤ x))) (between (x *ℤ pos p.n) (x *ℤ pos p.n) p.x && between (y0 *ℤ pos p.n) (y1 *ℤ pos p.n) p.y)
     (true-from_eq ((p.x -ℤ x *ℤ pos p.n) *ℤ (y1 -ℤ y0)) ((p.y -ℤ y0 *ℤ pos p.n) *ℤ (x -ℤ x)) z)
     (both (between (x *ℤ pos p.n) (x *ℤ pos p.n) p.x) (between (y0 *ℤ pos p.n) (y1 *ℤ pos p.n) p.y)
-    (ordered_between (x *ℤ pos p.n) (x *ℤ pos p.n) p.x (omega (arith, sums, e)) (omega (arith, sums, e))) (ordered_between (y0 *ℤ pos p.n) (y1 *ℤ pos p.n) p.y h k))
+    (between_up (x *ℤ pos p.n) (x *ℤ pos p.n) p.x (omega (arith, sums, e)) (omega (arith, sums, e))) (between_up (y0 *ℤ pos p.n) (y1 *ℤ pos p.n) p.y h k))
 
 level_on : (x0 x1 y : ℤ) (p : Point) → p.y ≡ y *ℤ pos p.n → (x0 *ℤ pos p.n) ≤ℤ p.x → p.x ≤ℤ (x1 *ℤ pos p.n) → on_edge (record { from = spot_at x0 y; to = spot_at x1 y }) p ≡ true
 level_on x0 x1 y p e h k =
     on_edge-flat (spot_at x0 y) (spot_at x1 y) refl p
-    ∙ both (eq_z p.y (y *ℤ pos p.n)) (between (x0 *ℤ pos p.n) (x1 *ℤ pos p.n) p.x) (true-from_eq p.y (y *ℤ pos p.n) e) (ordered_between (x0 *ℤ pos p.n) (x1 *ℤ pos p.n) p.x h k)
+    ∙ both (eq_z p.y (y *ℤ pos p.n)) (between (x0 *ℤ pos p.n) (x1 *ℤ pos p.n) p.x) (true-from_eq p.y (y *ℤ pos p.n) e) (between_up (x0 *ℤ pos p.n) (x1 *ℤ pos p.n) p.x h k)
 
 upright_right : (x y0 y1 : ℤ) (p : Point) → (y0 *ℤ pos p.n) <ℤ p.y → p.y <ℤ (y1 *ℤ pos p.n) → p.x <ℤ (x *ℤ pos p.n) → crosses_ray (record { from = spot_at x y0; to = spot_at x y1 }) p ≡ true
 upright_right x y0 y1 p h k l =
@@ -106,7 +114,7 @@ module _ (x0 y0 x1 y1 : ℤ) (p : Point) (w : Within x0 x1 y0 y1 p) where
   over : pos 0 <ℤ pos p.n
   over = omega (arith, sums, p.is_over)
 
-  ring_has : HasPoint (record { points = []; lines = []; areas = (corners x0 y0 x1 y1 ∷ []) ∷ [] }) p
+  ring_has : HasPoint (parts_of (shape.Polygon (corners x0 y0 x1 y1 ∷ []))) p
   ring_has = area_has (corners x0 y0 x1 y1) p (by_sides (cmp (y0 *ℤ pos p.n) p.y) (cmp p.y (y1 *ℤ pos p.n)) (cmp (x0 *ℤ pos p.n) p.x) (cmp p.x (x1 *ℤ pos p.n)))
     where
       low : Edge
@@ -137,8 +145,11 @@ module _ (x0 y0 x1 y1 : ℤ) (p : Point) (w : Within x0 x1 y0 y1 p) where
   not_over_y : y1 <ℤ y0 → ⊥
   not_over_y h = let k : (y1 *ℤ pos p.n) <ℤ (y0 *ℤ pos p.n) = lt-mul_right y1 y0 (pos p.n) over h in omega (arith, sums, k, w.low, w.high)
 
-  not_eq : (a b : ℤ) → a <ℤ b → eq_z a b ≡ false
-  not_eq a b h = is_false (eq_z a b) (λ t. let e : a ≡ b = eq-from_true a b t in omega (arith, sums, h, e))
+  not_eq : (a b : ℤ) → a <ℤ b → int_eq a b ≡ false
+  not_eq a b h = is_false (int_eq a b) (λ t. let e : a ≡ b = (Decides-int_eq a b).0 t in omega (arith, sums, h, e))
+
+  is_eq : (a b : ℤ) → a ≡ b → int_eq a b ≡ true
+  is_eq a b e = (Decides-int_eq a b).1 e
 
   in_x : x0 ≡ x1 → p.x ≡ x0 *ℤ pos p.n
   in_x e = let k : x0 *ℤ pos p.n ≡ x1 *ℤ pos p.n = ap (λ (z : ℤ). z *ℤ pos p.n) e in omega (arith, sums, k, w.left, w.right)
@@ -150,18 +161,29 @@ module _ (x0 y0 x1 y1 : ℤ) (p : Point) (w : Within x0 x1 y0 y1 p) where
   point_is true e = refl
   point_is false e = absurd (cc)
 
-  point_has : x0 ≡ x1 → y0 ≡ y1 → HasPoint (record { points = spot_at x0 y0 ∷ []; lines = []; areas = [] }) p
+  point_has : x0 ≡ x1 → y0 ≡ y1 → HasPoint (parts_of (shape.Point (spot_at x0 y0))) p
   point_has e f = point_is (is_at (spot_at x0 y0) p) (both (eq_z p.x (x0 *ℤ pos p.n)) (eq_z p.y (y0 *ℤ pos p.n)) (true-from_eq p.x (x0 *ℤ pos p.n) (in_x e)) (true-from_eq p.y (y0 *ℤ pos p.n) (in_y f)))
 
-  pub filled_has : HasPoint (filled (record { xmin = x0; ymin = y0; xmax = x1; ymax = y1 })) p
+  -- a line from corner to corner
+  upright_held : x0 ≡ x1 → HasPoint (parts_of (shape.Line (spot_at x0 y0 ∷ spot_at x1 y1 ∷ []))) p
+  upright_held e =
+      line_has (spot_at x0 y0) (spot_at x1 y1) p
+      (subst (λ (x : ℤ). on_edge (record { from = spot_at x0 y0; to = spot_at x y1 }) p ≡ true) e (upright_on x0 y0 y1 p (in_x e) w.low w.high))
+
+  level_held : y0 ≡ y1 → HasPoint (parts_of (shape.Line (spot_at x0 y0 ∷ spot_at x1 y1 ∷ []))) p
+  level_held f =
+      line_has (spot_at x0 y0) (spot_at x1 y1) p
+      (subst (λ (y : ℤ). on_edge (record { from = spot_at x0 y0; to = spot_at x1 y }) p ≡ true) f (level_on x0 x1 y0 p (in_y f) w.left w.right))
+
+  pub filled_has : HasPoint (parts_of (as_shape (record { xmin = x0; ymin = y0; xmax = x1; ymax = y1 }))) p
   filled_has = by_sizes (cmp x0 x1) (cmp y0 y1)
     where
-      by_sizes : Cmp x0 x1 → Cmp y0 y1 → HasPoint (filled (record { xmin = x0; ymin = y0; xmax = x1; ymax = y1 })) p
+      by_sizes : Cmp x0 x1 → Cmp y0 y1 → HasPoint (parts_of (as_shape (record { xmin = x0; ymin = y0; xmax = x1; ymax = y1 }))) p
       by_sizes (more h) d = absurd (not_over_x h)
       by_sizes c (more h) = absurd (not_over_y h)
-      by_sizes (same e) (same f) = rw (true-from_eq x0 x1 e, true-from_eq y0 y1 f) (point_has e f)
-      by_sizes (same e) (less f) = rw (true-from_eq x0 x1 e, not_eq y0 y1 f) (line_has (spot_at x0 y0) (spot_at x0 y1) p (upright_on x0 y0 y1 p (in_x e) w.low w.high))
-      by_sizes (less e) (same f) = rw (not_eq x0 x1 e, true-from_eq y0 y1 f) (line_has (spot_at x0 y0) (spot_at x1 y0) p (level_on x0 x1 y0 p (in_y f) w.left w.right))
+      by_sizes (same e) (same f) = rw (is_eq x0 x1 e, is_eq y0 y1 f) (point_has e f)
+      by_sizes (same e) (less f) = rw (is_eq x0 x1 e, not_eq y0 y1 f) (upright_held e)
+      by_sizes (less e) (same f) = rw (not_eq x0 x1 e, is_eq y0 y1 f) (level_held f)
       by_sizes (less e) (less f) = rw (not_eq x0 x1 e, not_eq y0 y1 f) ring_has
 
 -- ---- squares
@@ -191,12 +213,21 @@ root_below a b h k = by_cmp (cmp a b)
 neg-square : (a : ℤ) → square (neg_ℤ a) ≡ square a
 neg-square a = simp products (omega (arith, sums))
 
-abbrev Gaps : ℕ → Point → Point → Type 0
-Gaps d p q = (square (gap_x p q) +ℤ square (gap_y p q)) ≤ℤ square (far d p q)
+abbrev gap_x : Point → Point → ℤ
+gap_x p q = p.x *ℤ pos q.n -ℤ q.x *ℤ pos p.n
 
-gaps_of : (d : ℕ) (strict : Bool) (p q : Point) → NearPoints d strict p q → Gaps d p q
-gaps_of d true p q h = omega (arith, sums, h)
-gaps_of d false p q h = h
+abbrev gap_y : Point → Point → ℤ
+gap_y p q = p.y *ℤ pos q.n -ℤ q.y *ℤ pos p.n
+
+abbrev far : ℕ → Point → Point → ℤ
+far d p q = pos d *ℤ (pos p.n *ℤ pos q.n)
+
+abbrev Gaps : ℕ → Point → Point → Type 0
+Gaps d p q = apart p q ≤ℤ square (far d p q)
+
+gaps_of : (d : ℕ) (strict : Bool) (p q : Point) → is_within p q d strict ≡ true → Gaps d p q
+gaps_of d true p q h = let k : apart p q <ℤ square (far d p q) = lt-from_true (apart p q) (square (far d p q)) h in omega (arith, sums, k)
+gaps_of d false p q h = le-from_true (apart p q) (square (far d p q)) h
 
 -- each gap is at most the bound, either way
 pub record Reach (g r : ℤ) : Type 0 where
@@ -225,19 +256,19 @@ to_high hi d x y n m pn pm h k =
     let e : ((hi +ℤ pos d) *ℤ n) *ℤ m ≡ (hi *ℤ m) *ℤ n +ℤ pos d *ℤ (n *ℤ m) = simp products (omega (arith, sums)) in
     le-cancel_right x ((hi +ℤ pos d) *ℤ n) m pm (omega (arith, sums, a, e, k))
 
-greater_below : (a b n x : ℤ) → (a *ℤ n) ≤ℤ x → (b *ℤ n) ≤ℤ x → (greater a b *ℤ n) ≤ℤ x
-greater_below a b n x h k = by_test (le_z a b)
+greater_below : (a b n x : ℤ) → (a *ℤ n) ≤ℤ x → (b *ℤ n) ≤ℤ x → (int_max a b *ℤ n) ≤ℤ x
+greater_below a b n x h k = by_test (int_lt b a)
   where
-    by_test : (t : Bool) → (cond t b a *ℤ n) ≤ℤ x
-    by_test true = k
-    by_test false = h
-
-lesser_above : (a b n x : ℤ) → x ≤ℤ (a *ℤ n) → x ≤ℤ (b *ℤ n) → x ≤ℤ (lesser a b *ℤ n)
-lesser_above a b n x h k = by_test (le_z a b)
-  where
-    by_test : (t : Bool) → x ≤ℤ (cond t a b *ℤ n)
+    by_test : (t : Bool) → (cond t a b *ℤ n) ≤ℤ x
     by_test true = h
     by_test false = k
+
+lesser_above : (a b n x : ℤ) → x ≤ℤ (a *ℤ n) → x ≤ℤ (b *ℤ n) → x ≤ℤ (int_min a b *ℤ n)
+lesser_above a b n x h k = by_test (int_lt b a)
+  where
+    by_test : (t : Bool) → x ≤ℤ (cond t b a *ℤ n)
+    by_test true = k
+    by_test false = h
 
 -- ---- tests as facts
 each_of-all : {A : Type 0} (t : A → Bool) (xs : List A) → list_all t xs ≡ true → Each (λ x. t x ≡ true) xs
@@ -298,8 +329,8 @@ lies_in_bounds k b c i p h = box_from b p (within_of k b p c i h)
 corner : (b : Bounds) (x y : ℤ) → b.xmin ≤ℤ x → x ≤ℤ b.xmax → b.ymin ≤ℤ y → y ≤ℤ b.ymax → lies_in b (spot_at x y) ≡ true
 corner b x y h1 h2 h3 h4 = rw (true-from_le b.xmin x h1, true-from_le x b.xmax h2, true-from_le b.ymin y h3, true-from_le y b.ymax h4) refl
 
-filled_in : (b : Bounds) → b.xmin ≤ℤ b.xmax → b.ymin ≤ℤ b.ymax → (all_in b (filled b) ≡ true) × (are_closed (filled b) ≡ true)
-filled_in b h k = by_sides (eq_z b.xmin b.xmax) refl (eq_z b.ymin b.ymax) refl
+filled_in : (b : Bounds) → b.xmin ≤ℤ b.xmax → b.ymin ≤ℤ b.ymax → (all_in b (parts_of (as_shape b)) ≡ true) × (are_closed (parts_of (as_shape b)) ≡ true)
+filled_in b h k = by_sides (int_eq b.xmin b.xmax) refl (int_eq b.ymin b.ymax) refl
   where
     self : (x y : ℤ) → same_spot (spot_at x y) (spot_at x y) ≡ true
     self x y = both (eq_z x x) (eq_z y y) (true-from_eq x x refl) (true-from_eq y y refl)
@@ -316,15 +347,15 @@ filled_in b h k = by_sides (eq_z b.xmin b.xmax) refl (eq_z b.ymin b.ymax) refl
     ur : lies_in b (spot_at b.xmax b.ymax) ≡ true
     ur = corner b b.xmax b.ymax h (omega (arith, sums)) k (omega (arith, sums))
 
-    by_sides : (s : Bool) → eq_z b.xmin b.xmax ≡ s → (t : Bool) → eq_z b.ymin b.ymax ≡ t → (all_in b (filled b) ≡ true) × (are_closed (filled b) ≡ true)
+    by_sides : (s : Bool) → int_eq b.xmin b.xmax ≡ s → (t : Bool) → int_eq b.ymin b.ymax ≡ t → (all_in b (parts_of (as_shape b)) ≡ true) × (are_closed (parts_of (as_shape b)) ≡ true)
     by_sides true e true f = (rw (e, f, ll) refl, rw (e, f) refl)
-    by_sides true e false f = (rw (e, f, ll, ul) refl, rw (e, f) refl)
-    by_sides false e true f = (rw (e, f, ll, lr) refl, rw (e, f) refl)
+    by_sides true e false f = (rw (e, f, ll, ur) refl, rw (e, f) refl)
+    by_sides false e true f = (rw (e, f, ll, ur) refl, rw (e, f) refl)
     by_sides false e false f = (rw (e, f, ll, lr, ul, ur) refl, rw (e, f, self b.xmin b.ymin) refl)
 
 pub is_filled : IsFilled
 is_filled b h k p = (
-  λ o. lies_in_bounds (filled b) b (filled_in b h k).1 (filled_in b h k).0 p o,
+  λ o. lies_in_bounds (parts_of (as_shape b)) b (filled_in b h k).1 (filled_in b h k).0 p o,
   λ i. filled_has b.xmin b.ymin b.xmax b.ymax p (within_from b p i),
 )
 
@@ -339,7 +370,7 @@ reaches_near k b outer d strict c i p q h l g =
     let s : Gaps d p q = gaps_of d strict p q g in
     let x : Reach (gap_x p q) (far d p q) = reach_of (gap_x p q) (gap_y p q) (far d p q) r s in
     let y : Reach (gap_y p q) (far d p q) = reach_of (gap_y p q) (gap_x p q) (far d p q) r (omega (arith, sums, s)) in
-    filled_has (moved_out outer d b).xmin (moved_out outer d b).ymin (moved_out outer d b).xmax (moved_out outer d b).ymax p
+    filled_has (moved_within outer b d).xmin (moved_within outer b d).ymin (moved_within outer b d).xmax (moved_within outer b d).ymax p
     (record {
       left = greater_below (b.xmin -ℤ pos d) outer.xmin (pos p.n) p.x (from_low b.xmin d p.x q.x (pos p.n) (pos q.n) pn qn w.left x.down) v.left;
       right = lesser_above (b.xmax +ℤ pos d) outer.xmax (pos p.n) p.x (to_high b.xmax d p.x q.x (pos p.n) (pos q.n) pn qn w.right x.up) v.right;

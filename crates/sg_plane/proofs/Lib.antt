@@ -1,8 +1,5 @@
-pub mod Ring
-pub mod Comparisons
 pub mod Totals
 pub mod Lists
-pub mod Edges
 pub mod Alike
 pub mod Moved
 pub mod Samples

@@ -2,7 +2,7 @@
 use Rattle.std.proofs.Common.{◌≡◌, refl, sym, ap, ◌∙◌, subst, Bool, true, List, [], ◌∷◌, ◌++◌, map}
 use Rattle.std.specs.List.{list_any, flat_map}
 use mathlib.Core.Logic.{◌⊎◌, inl, inr}
-use Rattle.sg_plane.proofs.Comparisons.{or_left, or_right, either_true}
+use Rattle.sg_algebra.proofs.Comparisons.{or_left, or_right, either_true}
 
 abbrev pub Has : {A : Type 0} → List A → A → Type 0
 Has [] a = ⊥

@@ -4,9 +4,9 @@ use Rattle.std.specs.List.{flat_map}
 use mathlib.Core.Logic.{◌⊎◌, inl, inr}
 use lib.IntN.{ℤ, pos, ◌+ℤ◌, ◌-ℤ◌, ◌*ℤ◌, neg_ℤ, zero-*ℤ, *ℤ-zero}
 use lib.Signed.{◌<ℤ◌, ◌≤ℤ◌}
-use Rattle.sg_plane.proofs.Ring.{sums, products, neg-mul, mul-pos, Cmp, less, same, more, cmp}
-use Rattle.sg_plane.proofs.Comparisons.{true-from_lt}
-use Rattle.sg_plane.proofs.Comparisons.{false-from_le}
+use Rattle.sg_algebra.proofs.Ring.{sums, products, neg-mul, mul-pos}
+use Rattle.sg_algebra.specs.Orders.{Cmp, less, same, more, cmp}
+use Rattle.sg_algebra.proofs.Comparisons.{true-from_lt, false-from_le}
 use Rattle.sg_plane.specs.Samples.{Form, Line, value, upward, axis, left_of, right_of, middle, lines_by, lines}
 use Rattle.sg_plane.proofs.Lists.{Has, Each, each_more, each_both, each_from-flat, each_to-flat, has-left, has-right, has-map, has-flat}
 use Rattle.sg_plane.proofs.Alike.{Alike, over, under, alike-neg, alike-scaled, mean_sign, chain}

@@ -3,7 +3,7 @@ use Rattle.std.proofs.Common.{zero, suc, ◌≡◌, arith, refl, sym, ◌∙◌,
 use Rattle.std.specs.Prelude.{◌↔◌}
 use lib.IntN.{ℤ, pos, negsuc, ◌+ℤ◌, ◌*ℤ◌, zero-*ℤ, *ℤ-zero, +ℤ_idl}
 use lib.Signed.{◌<ℤ◌}
-use Rattle.sg_plane.proofs.Ring.{sums, products, mul-pos}
+use Rattle.sg_algebra.proofs.Ring.{sums, products, mul-pos}
 use Rattle.sg_shape.specs.Plane.{Point}
 use Rattle.sg_plane.specs.Samples.{Form, Line, value, at, lines, along, point_at, point_on, samples, some_point}
 use Rattle.sg_plane.proofs.Lists.{Has, Each, each_both, each_from-map, has-map, has-flat, any-has, has-any}

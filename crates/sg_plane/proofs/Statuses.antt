@@ -4,11 +4,8 @@ use Rattle.std.specs.List.{flat_map, list_any, count_by}
 use Rattle.std.proofs.lemmas.List.Sums.{sum_by-cons}
 use lib.IntN.{ℤ, pos, ◌+ℤ◌, ◌-ℤ◌, ◌*ℤ◌, neg_ℤ, *ℤ_comm, zero-*ℤ, *ℤ-one, one}
 use lib.Signed.{◌<ℤ◌, ◌≤ℤ◌, lt_z, le_z}
-use Rattle.sg_plane.proofs.Ring.{sums, products, neg-mul}
-use Rattle.sg_plane.proofs.Comparisons.{true-from_lt, true-from_le}
-use Rattle.sg_plane.proofs.Comparisons.{false-from_le}
-use Rattle.sg_plane.proofs.Comparisons.{is_false}
-use Rattle.sg_plane.proofs.Comparisons.{le-from_true}
+use Rattle.sg_algebra.proofs.Ring.{sums, products, neg-mul}
+use Rattle.sg_algebra.proofs.Comparisons.{true-from_lt, true-from_le, false-from_le, is_false, le-from_true}
 use Rattle.sg_shape.specs.declared.spots.Spot.{Spot}
 use Rattle.sg_shape.specs.declared.spots.Edge.{Edge}
 use Rattle.sg_shape.specs.Plane.{Point, Parts, status, eq_z, is_at, between, on_edge, is_above, passes_right, crosses_ray, edges_of, last_of, ends_at, lines_status, area_status, is_in, is_bd}

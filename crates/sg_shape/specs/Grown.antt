@@ -14,14 +14,18 @@ use Rattle.sg_shape.specs.Plane.{Point}
 abbrev pub limits : Bounds
 limits = record { xmin = neg_ℤ (pos 16000000); ymin = neg_ℤ (pos 16000000); xmax = pos 16000000; ymax = pos 16000000 }
 
--- the box moved out by d on each side and cut at the limits
-abbrev pub moved_out : Bounds → ℕ → Bounds
-moved_out b d = record {
-  xmin = int_max (b.xmin -ℤ pos d) limits.xmin;
-  ymin = int_max (b.ymin -ℤ pos d) limits.ymin;
-  xmax = int_min (b.xmax +ℤ pos d) limits.xmax;
-  ymax = int_min (b.ymax +ℤ pos d) limits.ymax;
+-- the box moved out by d on each side and cut at an outer one
+abbrev pub moved_within : Bounds → Bounds → ℕ → Bounds
+moved_within outer b d = record {
+  xmin = int_max (b.xmin -ℤ pos d) outer.xmin;
+  ymin = int_max (b.ymin -ℤ pos d) outer.ymin;
+  xmax = int_min (b.xmax +ℤ pos d) outer.xmax;
+  ymax = int_min (b.ymax +ℤ pos d) outer.ymax;
 }
+
+-- cut at the limits
+abbrev pub moved_out : Bounds → ℕ → Bounds
+moved_out b d = moved_within limits b d
 
 -- the corners of a box
 abbrev pub low : Bounds → Spot

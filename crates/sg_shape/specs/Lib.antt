@@ -2,6 +2,7 @@ pub mod Plane
 pub mod Shapes
 pub mod Matrix
 pub mod Sound
+pub mod Limits
 pub mod Bounds
 pub mod Boxes
 pub mod Near

@@ -2,7 +2,7 @@ use Rattle.std.proofs.Common.{subst, sym, List}
 use Rattle.std.specs.List.{All}
 use Rattle.sg_shape.specs.declared.spots.Spot.{Spot}
 use Rattle.sg_distance.proofs.ByKind.{of_area}
-use Rattle.sg_distance.specs.Edges.{IsIn}
+use Rattle.sg_shape.specs.Limits.{IsIn}
 use Rattle.sg_distance.proofs.areas.encloses.Goals as goal
 
 pub encloses_first-requires-clause-first : goal.encloses_first-requires-clause-first

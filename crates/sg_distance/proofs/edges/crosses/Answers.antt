@@ -1,7 +1,8 @@
 use Rattle.std.proofs.Common.{◌≡◌, sym, ◌∙◌, refl, Bool, true, false, ℤ}
 use Rattle.sg_distance.proofs.Fitting.{clean}
 use mathlib.Core.Bool.{◌&&◌, not}
-use Rattle.sg_distance.specs.Edges.{one_side, two_sides, cross_at}
+use Rattle.sg_distance.specs.Edges.{one_side, two_sides}
+use Rattle.sg_segment.specs.Sides.{cross}
 use Rattle.sg_distance.proofs.edges.crosses.Goals as goal
 
 together_is : (r : Bool) (z w z' w' : ℤ) → r ≡ one_side z' w' → z' ≡ z → w' ≡ w → (b : Bool) → r ≡ b → one_side z w ≡ b
@@ -20,17 +21,17 @@ none false t e = refl
 
 pub returns-then-together : goal.returns-then-together
 returns-then-together c =
-    none (two_sides (cross_at c.args.e.from c.args.e.to c.args.f.from) (cross_at c.args.e.from c.args.e.to c.args.f.to)) (one_side (cross_at c.args.f.from c.args.f.to c.args.e.from) (cross_at c.args.f.from c.args.f.to c.args.e.to))
-    (together_is c.together.result (cross_at c.args.f.from c.args.f.to c.args.e.from) (cross_at c.args.f.from c.args.f.to c.args.e.to) _ _ c.together.ensures
-    (clean c.across.result (cross_at c.args.f.from c.args.f.to c.args.e.from) (record { sfits = c.across.type_inv }) c.across.ensures.value)
-    (clean c.across-2.result (cross_at c.args.f.from c.args.f.to c.args.e.to) (record { sfits = c.across-2.type_inv }) c.across-2.ensures.value) true c.if-together.true)
+    none (two_sides (cross c.args.e.from c.args.e.to c.args.f.from) (cross c.args.e.from c.args.e.to c.args.f.to)) (one_side (cross c.args.f.from c.args.f.to c.args.e.from) (cross c.args.f.from c.args.f.to c.args.e.to))
+    (together_is c.together.result (cross c.args.f.from c.args.f.to c.args.e.from) (cross c.args.f.from c.args.f.to c.args.e.to) _ _ c.together.ensures
+    (clean c.orient.result (cross c.args.f.from c.args.f.to c.args.e.from) (record { sfits = c.orient.type_inv }) c.orient.ensures.value)
+    (clean c.orient-2.result (cross c.args.f.from c.args.f.to c.args.e.to) (record { sfits = c.orient-2.type_inv }) c.orient-2.ensures.value) true c.if-together.true)
 
 pub returns : goal.returns
 returns c =
-    joined c.apart.result (cross_at c.args.e.from c.args.e.to c.args.f.from) (cross_at c.args.e.from c.args.e.to c.args.f.to) _ _ (one_side (cross_at c.args.f.from c.args.f.to c.args.e.from) (cross_at c.args.f.from c.args.f.to c.args.e.to))
+    joined c.apart.result (cross c.args.e.from c.args.e.to c.args.f.from) (cross c.args.e.from c.args.e.to c.args.f.to) _ _ (one_side (cross c.args.f.from c.args.f.to c.args.e.from) (cross c.args.f.from c.args.f.to c.args.e.to))
     c.apart.ensures
-    (clean c.across-3.result (cross_at c.args.e.from c.args.e.to c.args.f.from) (record { sfits = c.across-3.type_inv }) c.across-3.ensures.value)
-    (clean c.across-4.result (cross_at c.args.e.from c.args.e.to c.args.f.to) (record { sfits = c.across-4.type_inv }) c.across-4.ensures.value)
-    (together_is c.together.result (cross_at c.args.f.from c.args.f.to c.args.e.from) (cross_at c.args.f.from c.args.f.to c.args.e.to) _ _ c.together.ensures
-    (clean c.across.result (cross_at c.args.f.from c.args.f.to c.args.e.from) (record { sfits = c.across.type_inv }) c.across.ensures.value)
-    (clean c.across-2.result (cross_at c.args.f.from c.args.f.to c.args.e.to) (record { sfits = c.across-2.type_inv }) c.across-2.ensures.value) false c.if-together.false)
+    (clean c.orient-3.result (cross c.args.e.from c.args.e.to c.args.f.from) (record { sfits = c.orient-3.type_inv }) c.orient-3.ensures.value)
+    (clean c.orient-4.result (cross c.args.e.from c.args.e.to c.args.f.to) (record { sfits = c.orient-4.type_inv }) c.orient-4.ensures.value)
+    (together_is c.together.result (cross c.args.f.from c.args.f.to c.args.e.from) (cross c.args.f.from c.args.f.to c.args.e.to) _ _ c.together.ensures
+    (clean c.orient.result (cross c.args.f.from c.args.f.to c.args.e.from) (record { sfits = c.orient.type_inv }) c.orient.ensures.value)
+    (clean c.orient-2.result (cross c.args.f.from c.args.f.to c.args.e.to) (record { sfits = c.orient-2.type_inv }) c.orient-2.ensures.value) false c.if-together.false)

@@ -1,7 +1,7 @@
 use Rattle.std.proofs.Common.{subst, sym}
 use Rattle.std.specs.List.{All}
 use Rattle.sg_distance.proofs.ByKind.{at_point, at_line}
-use Rattle.sg_distance.specs.Edges.{IsIn}
+use Rattle.sg_shape.specs.Limits.{IsIn}
 use Rattle.sg_distance.proofs.lines.edge_is_near_lines.Goals as goal
 
 pub edges_are_near-requires-clause-third : goal.edges_are_near-requires-clause-third

@@ -1,4 +1,4 @@
-use Rattle.sg_distance.proofs.InTurn.{Left}
+use Rattle.sg_segment.proofs.InTurn.{Left}
 use Rattle.sg_distance.specs.Shapes.{are_near}
 use Rattle.sg_distance.proofs.lines.edge_is_near_path.Given as goal
 

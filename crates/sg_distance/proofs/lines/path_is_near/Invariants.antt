@@ -1,4 +1,4 @@
-use Rattle.sg_distance.proofs.InTurn.{Left}
+use Rattle.sg_segment.proofs.InTurn.{Left}
 use Rattle.sg_distance.specs.Shapes.{is_near_any, lines_of}
 use Rattle.sg_shape.specs.Plane.{edges_of}
 use Rattle.sg_distance.proofs.lines.path_is_near.Given as goal

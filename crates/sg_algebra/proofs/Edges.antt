@@ -1,28 +1,46 @@
--- Edges written from either end, and flat edges.
+-- Edges written from either end, numbers between two others, and flat edges.
 use Rattle.std.proofs.Common.{◌≡◌, arith, refl, sym, ap, Bool, true, false, not}
 use mathlib.Core.Bool.{◌&&◌, ◌||◌}
+use mathlib.Core.Logic.{inl, inr}
 use lib.IntN.{ℤ, pos, ◌-ℤ◌, ◌*ℤ◌, zero-*ℤ, *ℤ-zero}
-use lib.Signed.{lt_z, le_z}
+use lib.Signed.{◌≤ℤ◌, lt_z, le_z}
 use Rattle.sg_shape.specs.declared.spots.Spot.{Spot}
 use Rattle.sg_shape.specs.Plane.{Point, eq_z, between, on_edge, is_above, passes_right, crosses_ray}
-use Rattle.sg_plane.proofs.Ring.{sums, products}
-use Rattle.sg_plane.proofs.Comparisons.{same_test, true-from_eq, eq-from_true}
+use Rattle.sg_algebra.proofs.Ring.{sums, products}
+use Rattle.sg_algebra.proofs.Comparisons.{le-from_true, true-from_le, same_test, left_true, right_true, both, either_true, or_left, or_right, true-from_eq, eq-from_true, or_swap}
 
-abbrev on_line : ℤ → ℤ → ℤ → ℤ → ℤ → ℤ → ℤ → Bool
+-- on numbers: the point (x, y, n) is on the line through (ax, ay) and (bx, by)
+abbrev pub on_line : ℤ → ℤ → ℤ → ℤ → ℤ → ℤ → ℤ → Bool
 on_line ax ay bx by x y n = eq_z ((x -ℤ ax *ℤ n) *ℤ (by -ℤ ay)) ((y -ℤ ay *ℤ n) *ℤ (bx -ℤ ax))
 
+-- ---- numbers between two others
+pub between_up : (a b v : ℤ) → a ≤ℤ v → v ≤ℤ b → between a b v ≡ true
+between_up a b v h k = or_left _ _ (both _ _ (true-from_le a v h) (true-from_le v b k))
+
+pub between_down : (a b v : ℤ) → b ≤ℤ v → v ≤ℤ a → between a b v ≡ true
+between_down a b v h k = or_right (le_z a v && le_z v b) _ (both _ _ (true-from_le b v h) (true-from_le v a k))
+
+pub between-not_after : (a b v : ℤ) → a ≤ℤ b → between a b v ≡ (le_z a v && le_z v b)
+between-not_after a b v h =
+    same_test
+    (λ t. elim (either_true (le_z a v && le_z v b) (le_z b v && le_z v a) t) [
+      | inl s ↦ s
+      | inr s ↦
+          let p : b ≤ℤ v = le-from_true b v (left_true (le_z b v) (le_z v a) s) in
+          let q : v ≤ℤ a = le-from_true v a (right_true (le_z b v) (le_z v a) s) in
+          both (le_z a v) (le_z v b) (true-from_le a v (omega (arith, sums))) (true-from_le v b (omega (arith, sums)))
+    ])
+    (λ t. or_left (le_z a v && le_z v b) (le_z b v && le_z v a) t)
+
+pub between-swap : (a b v : ℤ) → between a b v ≡ between b a v
+between-swap a b v = or_swap (le_z a v && le_z v b) (le_z b v && le_z v a)
+
 -- ---- an edge written from its upper end
-same_eq_neg : (a b c d : ℤ) → a -ℤ b ≡ d -ℤ c → eq_z a b ≡ eq_z c d
+pub same_eq_neg : (a b c d : ℤ) → a -ℤ b ≡ d -ℤ c → eq_z a b ≡ eq_z c d
 same_eq_neg a b c d e =
     same_test
     (λ t. true-from_eq c d (let l : a ≡ b = eq-from_true a b t in omega (arith, sums)))
     (λ t. true-from_eq a b (let l : c ≡ d = eq-from_true c d t in omega (arith, sums)))
-
-pub or_swap : (s t : Bool) → (s || t) ≡ (t || s)
-or_swap true true = refl
-or_swap true false = refl
-or_swap false true = refl
-or_swap false false = refl
 
 turned : (ax ay bx by x y n : ℤ) →
     (x -ℤ bx *ℤ n) *ℤ (ay -ℤ by) -ℤ (y -ℤ by *ℤ n) *ℤ (ax -ℤ bx) ≡ (y -ℤ ay *ℤ n) *ℤ (bx -ℤ ax) -ℤ (x -ℤ ax *ℤ n) *ℤ (by -ℤ ay)
@@ -34,8 +52,8 @@ on_edge-turned a b p =
       same_eq_neg ((p.x -ℤ b.x *ℤ pos p.n) *ℤ (a.y -ℤ b.y)) ((p.y -ℤ b.y *ℤ pos p.n) *ℤ (a.x -ℤ b.x))
           ((p.x -ℤ a.x *ℤ pos p.n) *ℤ (b.y -ℤ a.y)) ((p.y -ℤ a.y *ℤ pos p.n) *ℤ (b.x -ℤ a.x))
           (turned a.x a.y b.x b.y p.x p.y (pos p.n)),
-      or_swap (le_z (b.x *ℤ pos p.n) p.x && le_z p.x (a.x *ℤ pos p.n)) (le_z (a.x *ℤ pos p.n) p.x && le_z p.x (b.x *ℤ pos p.n)),
-      or_swap (le_z (b.y *ℤ pos p.n) p.y && le_z p.y (a.y *ℤ pos p.n)) (le_z (a.y *ℤ pos p.n) p.y && le_z p.y (b.y *ℤ pos p.n)),
+      between-swap (b.x *ℤ pos p.n) (a.x *ℤ pos p.n) p.x,
+      between-swap (b.y *ℤ pos p.n) (a.y *ℤ pos p.n) p.y,
     )
 
 pub crosses_ray-turned : (a b : Spot) (p : Point) → crosses_ray (record { from = b; to = a }) p ≡ crosses_ray (record { from = a; to = b }) p

@@ -1,0 +1,4 @@
+pub mod Ring
+pub mod Cancelling
+pub mod Comparisons
+pub mod Edges
