@@ -1,7 +1,6 @@
 pub mod Orders
 pub mod Gather
-pub mod FirstCrossing
-pub mod NextSpot
+pub mod Neighbours
 pub mod PartTags
 pub mod Fewer
 pub mod Rising
@@ -18,3 +17,8 @@ pub mod Queue
 pub mod Disjoint
 pub mod ShareSteps
 pub mod Found
+pub mod Growing
+pub mod Halves
+pub mod Coming
+pub mod Parted
+pub mod Moving

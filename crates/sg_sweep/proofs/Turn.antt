@@ -1,14 +1,13 @@
 -- One turn of the sweep: the next height's strands are in order above it, and what was met with its windows is what all its points have.
-use Rattle.std.proofs.Common.{ℕ, ◌≡◌, ◌+◌, ◌-◌, ◌≤◌, ◌<◌, arith, refl, sym, ap, ◌∙◌, subst, Bool, true, false, cond, List, [], ◌∷◌, ◌++◌, append_assoc, take, drop, IsTrue}
+use Rattle.std.proofs.Common.{ℕ, ◌≡◌, ◌+◌, ◌-◌, arith, refl, sym, ap, ◌∙◌, subst, Bool, true, false, cond, List, [], ◌∷◌, ◌++◌, append_assoc, take, drop, IsTrue}
 use Rattle.std.specs.Prelude.{◌↔◌}
 use Rattle.std.specs.List.Sorted.{IsPermutation}
 use Rattle.std.proofs.lemmas.List.Sorted.{IsPermutation-refl, IsPermutation-sym}
 use mathlib.Core.Logic.{◌⊎◌, inl, inr}
 use lib.IntN.{ℤ, pos, ◌*ℤ◌}
 use lib.Signed.{◌<ℤ◌, ◌≤ℤ◌}
-use Rattle.sg_segment.proofs.Ring.{sums}
-use Rattle.sg_segment.proofs.Comparisons.{eq-from_true, true-from_eq, left_true, right_true, both}
-use Rattle.sg_segment.proofs.Edges.{is_false}
+use Rattle.sg_algebra.proofs.Ring.{sums}
+use Rattle.sg_algebra.proofs.Comparisons.{eq-from_true, true-from_eq, left_true, right_true, both, is_false}
 use Rattle.sg_segment.proofs.PassOrder.{Apart, at_low, at_high, Level}
 use Rattle.sg_segment.specs.Passes.{reach, Before, NotAfter}
 use Rattle.sg_segment.specs.declared.figures.Pass.{Pass}
@@ -24,7 +23,7 @@ use Rattle.sg_heights.proofs.Slabs.{AllClear}
 use Rattle.sg_heights.proofs.SlotSums.{total-append}
 use Rattle.sg_heights.proofs.Sorted.{total-permutation}
 use Rattle.sg_heights.proofs.SortedSlab.{neighbours}
-use Rattle.sg_heights.proofs.Statuses.{both_layers}
+use Rattle.sg_heights.specs.Layers.{both_layers}
 use Rattle.sg_heights.proofs.Walks.{groups-same, walk_height}
 use Rattle.sg_heights.proofs.Windows.{Balanced, window-walks}
 use Rattle.sg_heights.specs.Counting.{WalkMeets, all_turns, turns_ahead}
@@ -37,22 +36,38 @@ use Rattle.sg_shape.specs.declared.matrices.Matrix.{Matrix}
 use Rattle.sg_sweep.specs.declared.strand.Strand.{Strand}
 use Rattle.sg_sweep.specs.Fronts.{low_of, high_of, Stands, Passing}
 use Rattle.sg_sweep.specs.Pieces.{Tag, stops_of, above_of}
-use Rattle.sg_sweep.specs.Rungs.{Each, ends, IsNextSpot, IsFirstCrossing, Covers, rungs_left}
+use Rattle.sg_sweep.specs.Rungs.{Each, ends, IsSlab, Covers}
 use Rattle.sg_sweep.specs.Steps.{IsStep}
 use Rattle.sg_sweep.specs.Strands.{strand_tags, sited, wholes, leaving}
 use Rattle.sg_sweep.specs.Windows.{EndsAbove, Quiet, IsFreeLeft, IsFreeRight, Meet}
 use Rattle.sg_sweep.proofs.Borders.{next-left, next-right, next-join, next-two, meet-map, each-append, each-first, each-second, each-permutation, InRow, Left, LastBefore, AllBefore, last-meet, all-meet, meet-last, meet-all, last-both, last-first, last-second, all-second, last-map, all-map, last-begun, begun-all, cut-of, quiet-is, quiet-fan, left-not_after}
-use Rattle.sg_sweep.proofs.Front.{each-map, each-both, rungs-fewer}
+use Rattle.sg_sweep.proofs.Front.{each-map, each-both}
 use Rattle.sg_sweep.proofs.Gather.{stops-append}
-use Rattle.sg_sweep.proofs.Rising.{layered, slab-rises, slab-fewer, slab-clear, slab-met, slab-sums, height-sums}
+use Rattle.sg_sweep.proofs.Rising.{layered, slab-clear, slab-met, slab-sums, height-sums}
 use Rattle.sg_sweep.proofs.RingTurns.{rings-turn}
 use Rattle.sg_sweep.proofs.StrandLists.{strand_tags-append, wholes-append, take_drop, drop-part, take-part}
 use Rattle.sg_sweep.proofs.Stretches.{passing-stops, passing-above, wholes-places, fan-passing, fan-places, staying, stay-sums, stay-below, fan-sums, stops-balanced, stops-turn, wholes-balanced, still-below, passing-next}
 use Rattle.sg_sweep.proofs.Whole.{BothOut}
 
-module _ (all rest taken : List Tag) (order next : List Strand) (t d : ℤ) (top h : Ratio) (old new : Matrix) (pd : pos 0 <ℤ d) (ph : pos 0 <ℤ h.bottom)
+-- ---- in order at the next height
+module _ (t d : ℤ) (h : Ratio) (pd : pos 0 <ℤ d) (ph : pos 0 <ℤ h.bottom) (rises : (t *ℤ h.bottom) <ℤ (h.top *ℤ d)) where
+  pub at-next : (l m : Pass) → Fan l m t d → Uncrossed l m h.top h.bottom → NotAfter l m h.top h.bottom
+  at-next l m f u = by (neighbours t d h.top h.bottom l m pd ph rises f u)
+    where
+      by-apart : Apart l m t d h.top h.bottom → NotAfter l m h.top h.bottom
+      by-apart (at_low x y) = y
+      by-apart (at_high x y) = left-not_after h.top h.bottom l m y
+
+      by : (Level l m t d × Level l m h.top h.bottom) ⊎ Apart l m t d h.top h.bottom → NotAfter l m h.top h.bottom
+      by (inl e) = omega (arith, sums, e.1)
+      by (inr e) = by-apart e
+
+  pub row-next : (ss : List Stop) → AllNext (λ s r. Fan s.pass r.pass t d) ss → AllNext (λ s r. Uncrossed s.pass r.pass h.top h.bottom) ss → InRow h.top h.bottom ss
+  row-next ss f u = next-two (λ s r. Fan s.pass r.pass t d) (λ s r. Uncrossed s.pass r.pass h.top h.bottom) (λ s r. NotAfter s.pass r.pass h.top h.bottom) ss (λ s r x y. at-next s.pass r.pass x y) f u
+
+module _ (all rest taken : List Tag) (order next : List Strand) (t d : ℤ) (h : Ratio) (old new : Matrix) (pd : pos 0 <ℤ d) (ph : pos 0 <ℤ h.bottom)
     (st : Stands all (strand_tags order) (taken ++ rest) t d) (pa : Passing (strand_tags order) t d) (fans : AllNext (λ s r. Fan s.pass r.pass t d) (wholes order))
-    (nx : IsNextSpot (strand_tags order ++ (taken ++ rest)) t d top.top) (one_is : top.bottom ≡ pos 1) (fc : IsFirstCrossing (wholes order) top h)
+    (slab : IsSlab (strand_tags order ++ (taken ++ rest)) (wholes order) t d h)
     (low : Each (λ g. (low_of g *ℤ h.bottom) ≤ℤ h.top) taken) (above : Each (λ z. h.top <ℤ (z *ℤ h.bottom)) (ends rest))
     (S : IsStep order taken h.top h.bottom old new next) where
   abbrev t2 : ℤ
@@ -82,8 +97,8 @@ module _ (all rest taken : List Tag) (order next : List Strand) (t d : ℤ) (top
   perm : IsPermutation (above_of (strand_tags order) t d) (wholes order)
   perm = subst (λ (ss : List Stop). IsPermutation ss (wholes order)) (sym (passing-above t d order pa)) (IsPermutation-refl (wholes order))
 
-  pub rises : (t *ℤ d2) <ℤ (t2 *ℤ d)
-  rises = slab-rises (strand_tags order) (taken ++ rest) t d pd top h nx one_is ph (above_of (strand_tags order) t d) (sited order) refl perm fans fc
+  rises : (t *ℤ d2) <ℤ (t2 *ℤ d)
+  rises = slab.rises
 
   -- ---- the parts of the order
   order-parts : order ≡ A ++ (V ++ B)
@@ -102,19 +117,8 @@ module _ (all rest taken : List Tag) (order next : List Strand) (t d : ℤ) (top
   next-stops = ap wholes S.next_is ∙ wholes-parts A S.fan B
 
   -- ---- in order at the height
-  at-next : (l m : Pass) → Fan l m t d → Uncrossed l m t2 d2 → NotAfter l m t2 d2
-  at-next l m f u = by (neighbours t d t2 d2 l m pd ph rises f u)
-    where
-      by-apart : Apart l m t d t2 d2 → NotAfter l m t2 d2
-      by-apart (at_low x y) = y
-      by-apart (at_high x y) = left-not_after t2 d2 l m y
-
-      by : (Level l m t d × Level l m t2 d2) ⊎ Apart l m t d t2 d2 → NotAfter l m t2 d2
-      by (inl e) = omega (arith, sums, e.1)
-      by (inr e) = by-apart e
-
   row : InRow t2 d2 (wholes order)
-  row = next-two (λ s r. Fan s.pass r.pass t d) (λ s r. Uncrossed s.pass r.pass t2 d2) (λ s r. NotAfter s.pass r.pass t2 d2) (wholes order) (λ s r f u. at-next s.pass r.pass f u) fans fc.uncrossed
+  row = row-next t d h pd ph rises (wholes order) fans slab.uncrossed
 
   row-parts : InRow t2 d2 (wholes A ++ (wholes V ++ wholes B))
   row-parts = subst (InRow t2 d2) order-stops row
@@ -294,22 +298,6 @@ module _ (all rest taken : List Tag) (order next : List Strand) (t d : ℤ) (top
     above = above;
   }
 
-  fewer-tags : (f : Tag → ℕ) → total f (strand_tags next ++ rest) ≤ total f (strand_tags order ++ (taken ++ rest))
-  fewer-tags f =
-      let v = order-total f in
-      let w = next-total f in
-      let x = front-total f in
-      let y = total-append f (strand_tags next) rest in
-      let z = total-append f (strand_tags order) (taken ++ rest) in
-      let q = total-append f taken rest in
-      omega (arith, v, w, x, y, z, q)
-
-  pub next-fewer : rungs_left (strand_tags next ++ rest) t2 d2 < rungs_left (strand_tags order ++ (taken ++ rest)) t d
-  next-fewer =
-      let a = slab-fewer (strand_tags order) (taken ++ rest) t d pd top h nx one_is ph (above_of (strand_tags order) t d) (sited order) refl perm fans fc in
-      let b = rungs-fewer (strand_tags next ++ rest) (strand_tags order ++ (taken ++ rest)) t2 d2 fewer-tags in
-      omega (arith, a, b)
-
   -- ---- which tests tell one place
   off-below : (l m : Pass) → Before l m t2 d2 → same_of true t d l m ≡ false
   off-below l m b =
@@ -411,7 +399,7 @@ module _ (all rest taken : List Tag) (order next : List Strand) (t d : ℤ) (top
         omega (arith, s, x, y, za, zb, zw, n)
 
     clear : AllClear (both_layers a b) t d t2 d2
-    clear = slab-clear (strand_tags order) (taken ++ rest) t d pd top h nx one_is ph (above_of (strand_tags order) t d) (sited order) refl perm fans fc a b all cov st
+    clear = slab-clear (strand_tags order) (taken ++ rest) t d pd h ph (above_of (strand_tags order) t d) (sited order) refl perm fans slab a b all cov st
 
     turned : Even (total (turning (pick 3)) (above_from 0 (both_layers a b) t d) + total (turning (pick 3)) (stops_from 0 (both_layers a b) t2 d2))
         × Even (total (turning (pick 7)) (above_from 0 (both_layers a b) t d) + total (turning (pick 7)) (stops_from 0 (both_layers a b) t2 d2))
@@ -433,7 +421,7 @@ module _ (all rest taken : List Tag) (order next : List Strand) (t d : ℤ) (top
     pub old-slab : (i j : Status) → WalkMeets i j (all_turns (wholes order)) (groups_by (same_of true t d) (wholes order)) ↔ InSlab a b i j t d t2 d2
     old-slab i j =
         subst (λ (gs : List Group). WalkMeets i j (all_turns (wholes order)) gs ↔ InSlab a b i j t d t2 d2) (sym (groups-same (same_of true t d) (same_in t d t2 d2) (far_same t d t2 d2 pd rises) (wholes order)))
-        (slab-met (strand_tags order) (taken ++ rest) t d pd top h nx one_is ph (above_of (strand_tags order) t d) (sited order) refl perm fans fc a b i j all cov st)
+        (slab-met (strand_tags order) (taken ++ rest) t d pd h ph (above_of (strand_tags order) t d) (sited order) refl perm fans slab a b i j all cov st)
 
     here-met : (i j : Status) → WalkMeets i j (all_turns (wholes A ++ (W ++ wholes B))) (groups_by (same_of false t2 d2) (wholes A ++ (W ++ wholes B))) ↔ AtHeight a b i j t2 d2
     here-met i j =

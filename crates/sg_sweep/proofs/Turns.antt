@@ -7,9 +7,10 @@ use mathlib.Core.Logic.{◌⊎◌, inl, inr}
 use lib.IntN.{ℤ, pos, ◌*ℤ◌}
 use lib.Signed.{◌<ℤ◌, ◌≤ℤ◌, lt_z}
 use mathlib.Core.Bool.{◌||◌}
-use Rattle.sg_distance.proofs.Comparisons.{either_true}
-use Rattle.sg_segment.proofs.Comparisons.{lt-from_true, le-from_false}
-use Rattle.sg_segment.proofs.Ring.{sums, products, nonneg_diff-mul, lt-mul_right, lt-cancel_right, Cmp, less, same, more, cmp}
+use Rattle.sg_algebra.proofs.Comparisons.{either_true, lt-from_true, le-from_false}
+use Rattle.sg_algebra.proofs.Ring.{sums, products, nonneg_diff-mul, lt-mul_right}
+use Rattle.sg_algebra.proofs.Cancelling.{lt-cancel_right}
+use Rattle.sg_algebra.specs.Orders.{Cmp, less, same, more, cmp}
 use Rattle.sg_segment.specs.Passes.{upward}
 use Rattle.sg_segment.specs.declared.figures.Ratio.{Ratio}
 use Rattle.sg_heights.proofs.Climb.{InSlab, UpTo}
@@ -27,16 +28,16 @@ use Rattle.sg_sweep.specs.declared.strand.Strand.{Strand}
 use Rattle.sg_sweep.specs.Fronts.{low_of, high_of, IsRising, Stands, Passing}
 use Rattle.sg_sweep.specs.Pieces.{Tag, tags, above_of}
 use Rattle.sg_sweep.specs.Aims.{only_outside, LiesUpTo, has_some, IsFound}
-use Rattle.sg_sweep.specs.Rungs.{Each, Exists, ends, NoneAbove, IsNextSpot, IsFirstCrossing, Covers, PartsMeet, IsWanted, has_all, rungs_left}
+use Rattle.sg_sweep.specs.Rungs.{Each, Exists, ends, NoneAbove, IsSlab, Covers, PartsMeet, IsWanted, has_all}
 use Rattle.sg_sweep.specs.Shares.{BeginsBetween, AreShares}
 use Rattle.sg_sweep.specs.Steps.{IsFanned, IsStep}
 use Rattle.sg_sweep.specs.Strands.{strand_tags, sited, wholes}
-use Rattle.sg_sweep.proofs.Front.{each-map, each-both, each-left, each-right, low_end, low_high, exists-first, rising-drop, behind-above, waiting-split, drop_drop}
+use Rattle.sg_sweep.proofs.Front.{each-map, each-both, each-left, each-right, low_end, low_high, rising-drop, behind-above, waiting-split, drop_drop}
 use Rattle.sg_heights.proofs.SlotSums.{total-append}
 use Rattle.sg_heights.proofs.Sorted.{total-permutation}
-use Rattle.sg_sweep.proofs.Rising.{slab-rises, slab-met}
+use Rattle.sg_sweep.proofs.Rising.{slab-met}
 use Rattle.sg_sweep.proofs.Stretches.{passing-above, fan-passing, staying, stay-sums, stay-below}
-use Rattle.sg_sweep.proofs.Turn.{next-stands, next-passing, next-fans, next-fewer, next-met}
+use Rattle.sg_sweep.proofs.Turn.{next-stands, next-passing, next-fans, next-met}
 use Rattle.sg_sweep.proofs.Whole.{BothOut, times_one, over, only-out, out-met, high_point, full-entry, some-entry}
 
 -- what was met is that of the points up to the height, from the first one on, and of the slab above it
@@ -143,31 +144,31 @@ no-order (s ∷ ss) wait t d p n = absurd (by (high-end (record { edge = s.piece
     by (inl e) = let k : t <ℤ (s.piece.edge.from.y *ℤ d) = subst (λ (z : ℤ). t <ℤ (z *ℤ d)) (sym e) p.0.1 in omega (arith, sums, k, n.0)
     by (inr e) = let k : t <ℤ (s.piece.edge.to.y *ℤ d) = subst (λ (z : ℤ). t <ℤ (z *ℤ d)) (sym e) p.0.1 in omega (arith, sums, k, n.1.0)
 
--- ---- what is hidden makes no next spot
-low-least : (to t d y z : ℤ) → pos 0 <ℤ d → t ≤ℤ (to *ℤ d) → (W : List Tag) → Each (λ v. ((v *ℤ d) ≤ℤ t) ⊎ (y ≤ℤ v)) (ends W) → Exists (BeginsBetween to z) W → y ≤ℤ z
-low-least to t d y z pd k [] h x = absurd x
-low-least to t d y z pd k (g ∷ gs) h (inr x) = low-least to t d y z pd k gs h.1.1 x
-low-least to t d y z pd k (g ∷ gs) h (inl x) = by (low_end g)
+-- ---- what is hidden makes no next height
+-- what is hidden lies no lower than what waits
+low-over : (to z : ℤ) (h : Ratio) → pos 0 <ℤ h.bottom → (W : List Tag) → Each (λ v. h.top ≤ℤ (v *ℤ h.bottom)) (ends W) → Exists (BeginsBetween to z) W → h.top ≤ℤ (z *ℤ h.bottom)
+low-over to z h ph [] e x = absurd x
+low-over to z h ph (g ∷ gs) e (inr x) = low-over to z h ph gs e.1.1 x
+low-over to z h ph (g ∷ gs) e (inl x) = by (low_end g)
   where
-    above : (to *ℤ d) <ℤ (low_of g *ℤ d)
-    above = lt-mul_right to (low_of g) d pd x.0
+    of : (v : ℤ) → v ≡ low_of g → h.top ≤ℤ (v *ℤ h.bottom) → h.top ≤ℤ (z *ℤ h.bottom)
+    of v k l =
+        let u : h.top ≤ℤ (low_of g *ℤ h.bottom) = subst (λ (w : ℤ). h.top ≤ℤ (w *ℤ h.bottom)) k l in
+        let a : (low_of g *ℤ h.bottom) ≤ℤ (z *ℤ h.bottom) = nonneg_diff-mul (low_of g) z h.bottom (omega (arith, sums)) x.1 in
+        omega (arith, sums, u, a)
 
-    of : (v : ℤ) → v ≡ low_of g → ((v *ℤ d) ≤ℤ t) ⊎ (y ≤ℤ v) → y ≤ℤ z
-    of v e (inl l) = let u : (low_of g *ℤ d) ≤ℤ t = subst (λ (w : ℤ). (w *ℤ d) ≤ℤ t) e l in absurd (let a = above in omega (arith, sums, a, u, k))
-    of v e (inr l) = let u : y ≤ℤ low_of g = subst (λ (w : ℤ). y ≤ℤ w) e l in let a = x.1 in omega (arith, sums, a, u)
+    by : (g.edge.from.y ≡ low_of g) ⊎ (g.edge.to.y ≡ low_of g) → h.top ≤ℤ (z *ℤ h.bottom)
+    by (inl k) = of g.edge.from.y k e.0
+    by (inr k) = of g.edge.to.y k e.1.0
 
-    by : (g.edge.from.y ≡ low_of g) ⊎ (g.edge.to.y ≡ low_of g) → y ≤ℤ z
-    by (inl e) = of g.edge.from.y e h.0
-    by (inr e) = of g.edge.to.y e h.1.0
-
-next-hidden : (act W H : List Tag) (to t d y : ℤ) → pos 0 <ℤ d → t ≤ℤ (to *ℤ d) → Each (λ z. Exists (BeginsBetween to z) W) (ends H) → IsNextSpot (act ++ W) t d y → IsNextSpot (act ++ (W ++ H)) t d y
-next-hidden act W H to t d y pd k c q =
-    subst (λ (gs : List Tag). IsNextSpot gs t d y) (append_assoc act W H)
+slab-hidden : (act W H : List Tag) (ss : List Stop) (to t d : ℤ) (h : Ratio) → pos 0 <ℤ h.bottom → Each (λ z. Exists (BeginsBetween to z) W) (ends H) → Each (λ v. h.top ≤ℤ (v *ℤ h.bottom)) (ends W) → IsSlab (act ++ W) ss t d h → IsSlab (act ++ (W ++ H)) ss t d h
+slab-hidden act W H ss to t d h ph c b q =
+    subst (λ (gs : List Tag). IsSlab gs ss t d h) (append_assoc act W H)
     (record {
-      above = q.above;
-      spot = exists-first (λ z. z ≡ y) (act ++ W) H q.spot;
-      least = each-both (λ z. ((z *ℤ d) ≤ℤ t) ⊎ (y ≤ℤ z)) (act ++ W) H q.least
-          (each-map (λ z. Exists (BeginsBetween to z) W) (λ z. ((z *ℤ d) ≤ℤ t) ⊎ (y ≤ℤ z)) (ends H) (λ z x. inr (low-least to t d y z pd k W (each-right (λ v. ((v *ℤ d) ≤ℤ t) ⊎ (y ≤ℤ v)) act W q.least) x)) c);
+      rises = q.rises;
+      clear = each-both (λ z. ((z *ℤ d) ≤ℤ t) ⊎ (h.top ≤ℤ (z *ℤ h.bottom))) (act ++ W) H q.clear
+          (each-map (λ z. Exists (BeginsBetween to z) W) (λ z. ((z *ℤ d) ≤ℤ t) ⊎ (h.top ≤ℤ (z *ℤ h.bottom))) (ends H) (λ z x. inr (low-over to z h ph W b x)) c);
+      uncrossed = q.uncrossed;
     })
 
 none-hidden : (act W H : List Tag) (to t d : ℤ) → pos 0 <ℤ d → t ≤ℤ (to *ℤ d) → Each (λ z. Exists (BeginsBetween to z) W) (ends H) → NoneAbove (act ++ W) t d → NoneAbove (act ++ (W ++ H)) t d
@@ -222,10 +223,10 @@ kept-top ps ws from to b order m w t d pd s n k l c = record {
         (s.met k l c i j).1 (inl (sym ea ∙ r.0, sym eb ∙ r.1))
 
 -- ---- before the top: all wanted pairs are met, or one that decides, or the next height counts no more
-pub kept-done : (ps ws : List Piece) (from to : ℤ) (b : ℕ) (order : List Strand) (m w q : Matrix) (t d : ℤ) (top h : Ratio) → pos 0 <ℤ d → pos 0 <ℤ h.bottom → Kept ps from to ws b order m t d →
-    IsNextSpot (strand_tags order ++ tags (drop b ws)) t d top.top → top.bottom ≡ pos 1 → IsFirstCrossing (wholes order) top h → (has_all m w || (has_some m q || lt_z (to *ℤ h.bottom) h.top)) ≡ true →
+pub kept-done : (ps ws : List Piece) (from to : ℤ) (b : ℕ) (order : List Strand) (m w q : Matrix) (t d : ℤ) (h : Ratio) → pos 0 <ℤ d → pos 0 <ℤ h.bottom → Kept ps from to ws b order m t d →
+    IsSlab (strand_tags order ++ tags (drop b ws)) (wholes order) t d h → Each (λ z. h.top ≤ℤ (z *ℤ h.bottom)) (ends (tags (drop b ws))) → (has_all m w || (has_some m q || lt_z (to *ℤ h.bottom) h.top)) ≡ true →
     (k l : Parts) → Covers k l (tags ps) → IsWanted w k l → IsFound from to q k l m
-kept-done ps ws from to b order m w q t d top h pd ph s nx0 one fc e k l c want = record {
+kept-done ps ws from to b order m w q t d h pd ph s slab0 begins e k l c want = record {
   met = λ i j x. to-point i j ((s.met k l c i j).0 x);
   out = (s.met k l c Out Out).1 (inl (refl, refl));
   all = elim (either_true (has_all m w) (has_some m q || lt_z (to *ℤ h.bottom) h.top) e) [
@@ -237,19 +238,19 @@ kept-done ps ws from to b order m w q t d top h pd ph s nx0 one fc e k l c want 
   ];
 }
   where
-    nx : IsNextSpot (strand_tags order ++ (tags (drop b ws) ++ s.hidden)) t d top.top
-    nx = next-hidden (strand_tags order) (tags (drop b ws)) s.hidden to t d top.top pd s.counts s.covered nx0
+    all-slab : IsSlab (strand_tags order ++ (tags (drop b ws) ++ s.hidden)) (wholes order) t d h
+    all-slab = slab-hidden (strand_tags order) (tags (drop b ws)) s.hidden (wholes order) to t d h ph s.covered begins slab0
 
     perm : IsPermutation (above_of (strand_tags order) t d) (wholes order)
     perm = subst (λ (ss : List Stop). IsPermutation ss (wholes order)) (sym (passing-above t d order s.passing)) (IsPermutation-refl (wholes order))
 
     rises : (t *ℤ h.bottom) <ℤ (h.top *ℤ d)
-    rises = slab-rises (strand_tags order) (tags (drop b ws) ++ s.hidden) t d pd top h nx one ph (above_of (strand_tags order) t d) (sited order) refl perm s.fans fc
+    rises = all-slab.rises
 
     slab : (i j : Status) → WalkMeets i j (all_turns (wholes order)) (groups_by (same_of true t d) (wholes order)) ↔ InSlab k l i j t d h.top h.bottom
     slab i j =
         subst (λ (gs : List Group). WalkMeets i j (all_turns (wholes order)) gs ↔ InSlab k l i j t d h.top h.bottom) (sym (groups-same (same_of true t d) (same_in t d h.top h.bottom) (far_same t d h.top h.bottom pd rises) (wholes order)))
-        (slab-met (strand_tags order) (tags (drop b ws) ++ s.hidden) t d pd top h nx one ph (above_of (strand_tags order) t d) (sited order) refl perm s.fans fc k l i j (tags ps) c s.stands)
+        (slab-met (strand_tags order) (tags (drop b ws) ++ s.hidden) t d pd h ph (above_of (strand_tags order) t d) (sited order) refl perm s.fans all-slab k l i j (tags ps) c s.stands)
 
     of-slab : (i j : Status) → InSlab k l i j t d h.top h.bottom → PartsMeet i j k l
     of-slab i j q = (q.0, q.2, q.3)
@@ -290,28 +291,20 @@ still-covered to z t d pd k [] hs h x = x
 still-covered to z t d pd k (g ∷ gs) hs h (inr x) = still-covered to z t d pd k gs hs h.1 x
 still-covered to z t d pd k (g ∷ gs) hs h (inl x) = absurd (let u : (to *ℤ d) <ℤ (low_of g *ℤ d) = lt-mul_right to (low_of g) d pd x.0 in let v = h.0 in omega (arith, sums, u, v, k))
 
-pub record Turned (ps : List Piece) (from to : ℤ) (ws : List Piece) (b n : ℕ) (order next : List Strand) (new : Matrix) (t d : ℤ) (h : Ratio) : Type 0 where
-  pub kept : Kept ps from to ws (b + n) next new h.top h.bottom
-  pub fewer : rungs_left (strand_tags next ++ tags (drop (b + n) ws)) h.top h.bottom < rungs_left (strand_tags order ++ tags (drop b ws)) t d
-
-pub turned : (ps ws waiting taken : List Piece) (from to : ℤ) (b n : ℕ) (order next : List Strand) (old new : Matrix) (t d : ℤ) (top h : Ratio) → pos 0 <ℤ d → pos 0 <ℤ h.bottom → IsRising (tags ws) → Kept ps from to ws b order old t d →
-    waiting ≡ drop b ws → taken ≡ take n waiting → IsNextSpot (strand_tags order ++ tags (drop b ws)) t d top.top → top.bottom ≡ pos 1 → IsFirstCrossing (wholes order) top h → h.top ≤ℤ (to *ℤ h.bottom) →
+pub turned : (ps ws waiting taken : List Piece) (from to : ℤ) (b n : ℕ) (order next : List Strand) (old new : Matrix) (t d : ℤ) (h : Ratio) → pos 0 <ℤ d → pos 0 <ℤ h.bottom → IsRising (tags ws) → Kept ps from to ws b order old t d →
+    waiting ≡ drop b ws → taken ≡ take n waiting → IsSlab (strand_tags order ++ tags (drop b ws)) (wholes order) t d h → Each (λ z. h.top ≤ℤ (z *ℤ h.bottom)) (ends (tags (drop b ws))) → h.top ≤ℤ (to *ℤ h.bottom) →
     ((k : ℕ) (q : Piece) → k < n → ((upward (get_or waiting k q).edge).from.y *ℤ h.bottom) ≤ℤ h.top) →
     ((q : Piece) → n < length waiting → h.top <ℤ ((upward (get_or waiting n q).edge).from.y *ℤ h.bottom)) → IsStep order (tags taken) h.top h.bottom old new next →
-    Turned ps from to ws b n order next new t d h
-turned ps ws waiting taken from to b n order next old new t d top h pd ph r s ew et nx one fc le fl fa st = record {
-  kept = record {
-    hidden = s.hidden;
-    stands = next-stands (tags ps) (tags (drop (b + n) ws) ++ s.hidden) (tags taken) order next t d top h old new pd ph stands s.passing s.fans spot one fc low above st;
-    covered = covered;
-    passing = next-passing (tags ps) (tags (drop (b + n) ws) ++ s.hidden) (tags taken) order next t d top h old new pd ph stands s.passing s.fans spot one fc low above st;
-    fans = next-fans (tags ps) (tags (drop (b + n) ws) ++ s.hidden) (tags taken) order next t d top h old new pd ph stands s.passing s.fans spot one fc low above st;
-    risen = risen;
-    counts = le;
-    met = λ k l c. next-met (tags ps) (tags (drop (b + n) ws) ++ s.hidden) (tags taken) order next t d top h old new pd ph stands s.passing s.fans spot one fc low above st k l c from s.risen (s.met k l c);
-  };
-  fewer = subst (λ (gs : List Tag). rungs_left (strand_tags next ++ tags (drop (b + n) ws)) h.top h.bottom < rungs_left (strand_tags order ++ gs) t d) (sym parts)
-      (next-fewer (s.stands.gone ++ (strand_tags order ++ (tags taken ++ tags (drop (b + n) ws)))) (tags (drop (b + n) ws)) (tags taken) order next t d top h old new pd ph alone s.passing s.fans first-spot one fc low behind st);
+    Kept ps from to ws (b + n) next new h.top h.bottom
+turned ps ws waiting taken from to b n order next old new t d h pd ph r s ew et slab0 begins le fl fa st = record {
+  hidden = s.hidden;
+  stands = next-stands (tags ps) (tags (drop (b + n) ws) ++ s.hidden) (tags taken) order next t d h old new pd ph stands s.passing s.fans slab low above st;
+  covered = covered;
+  passing = next-passing (tags ps) (tags (drop (b + n) ws) ++ s.hidden) (tags taken) order next t d h old new pd ph stands s.passing s.fans slab low above st;
+  fans = next-fans (tags ps) (tags (drop (b + n) ws) ++ s.hidden) (tags taken) order next t d h old new pd ph stands s.passing s.fans slab low above st;
+  risen = risen;
+  counts = le;
+  met = λ k l c. next-met (tags ps) (tags (drop (b + n) ws) ++ s.hidden) (tags taken) order next t d h old new pd ph stands s.passing s.fans slab low above st k l c from s.risen (s.met k l c);
 }
   where
     parts : tags (drop b ws) ≡ tags taken ++ tags (drop (b + n) ws)
@@ -323,11 +316,8 @@ turned ps ws waiting taken from to b n order next old new t d top h pd ph r s ew
     stands : Stands (tags ps) (strand_tags order) (tags taken ++ (tags (drop (b + n) ws) ++ s.hidden)) t d
     stands = subst (λ (gs : List Tag). Stands (tags ps) (strand_tags order) gs t d) all-parts s.stands
 
-    spot : IsNextSpot (strand_tags order ++ (tags taken ++ (tags (drop (b + n) ws) ++ s.hidden))) t d top.top
-    spot = subst (λ (gs : List Tag). IsNextSpot (strand_tags order ++ gs) t d top.top) all-parts (next-hidden (strand_tags order) (tags (drop b ws)) s.hidden to t d top.top pd s.counts s.covered nx)
-
-    first-spot : IsNextSpot (strand_tags order ++ (tags taken ++ tags (drop (b + n) ws))) t d top.top
-    first-spot = subst (λ (gs : List Tag). IsNextSpot (strand_tags order ++ gs) t d top.top) parts nx
+    slab : IsSlab (strand_tags order ++ (tags taken ++ (tags (drop (b + n) ws) ++ s.hidden))) (wholes order) t d h
+    slab = subst (λ (gs : List Tag). IsSlab (strand_tags order ++ gs) (wholes order) t d h) all-parts (slab-hidden (strand_tags order) (tags (drop b ws)) s.hidden (wholes order) to t d h ph s.covered begins slab0)
 
     low : Each (λ g. (low_of g *ℤ h.bottom) ≤ℤ h.top) (tags taken)
     low = subst (λ (xs : List Piece). Each (λ g. (low_of g *ℤ h.bottom) ≤ℤ h.top) (tags xs)) (sym et) (low-taken n waiting h.top h.bottom fl)
@@ -345,26 +335,9 @@ turned ps ws waiting taken from to b n order next old new t d top h pd ph r s ew
     above : Each (λ z. h.top <ℤ (z *ℤ h.bottom)) (ends (tags (drop (b + n) ws) ++ s.hidden))
     above = each-both (λ z. h.top <ℤ (z *ℤ h.bottom)) (tags (drop (b + n) ws)) s.hidden behind (covered-above to h.top h.bottom (tags (drop (b + n) ws)) s.hidden ph le covered)
 
-    -- the same without what is hidden
-    alone : Stands (s.stands.gone ++ (strand_tags order ++ (tags taken ++ tags (drop (b + n) ws)))) (strand_tags order) (tags taken ++ tags (drop (b + n) ws)) t d
-    alone = record {
-      gone = s.stands.gone;
-      same = λ f.
-          let u = total-append f s.stands.gone (strand_tags order ++ (tags taken ++ tags (drop (b + n) ws))) in
-          let v = total-append f (strand_tags order) (tags taken ++ tags (drop (b + n) ws)) in
-          omega (arith, u, v);
-      below = s.stands.below;
-      above = subst (λ (gs : List Tag). Each (λ z. t <ℤ (z *ℤ d)) (ends gs)) parts (each-left (λ z. t <ℤ (z *ℤ d)) (tags (drop b ws)) s.hidden s.stands.above);
-    }
-
-    rises : (t *ℤ h.bottom) <ℤ (h.top *ℤ d)
-    rises =
-        slab-rises (strand_tags order) (tags taken ++ (tags (drop (b + n) ws) ++ s.hidden)) t d pd top h spot one ph (above_of (strand_tags order) t d) (sited order) refl
-        (subst (λ (ss : List Stop). IsPermutation ss (wholes order)) (sym (passing-above t d order s.passing)) (IsPermutation-refl (wholes order))) s.fans fc
-
     risen : (from *ℤ h.bottom) ≤ℤ h.top
     risen =
         let u : ((from *ℤ d) *ℤ h.bottom) ≤ℤ (t *ℤ h.bottom) = nonneg_diff-mul (from *ℤ d) t h.bottom (omega (arith, sums)) s.risen in
         let e : (from *ℤ d) *ℤ h.bottom ≡ (from *ℤ h.bottom) *ℤ d = simp products in
-        let v : (from *ℤ h.bottom) <ℤ h.top = lt-cancel_right (from *ℤ h.bottom) h.top d pd (let w = rises in omega (arith, sums, u, e, w)) in
+        let v : (from *ℤ h.bottom) <ℤ h.top = lt-cancel_right (from *ℤ h.bottom) h.top d pd (let w = slab0.rises in omega (arith, sums, u, e, w)) in
         omega (arith, sums, v)

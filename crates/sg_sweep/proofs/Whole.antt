@@ -5,12 +5,11 @@ use mathlib.Core.Logic.{inl, inr}
 use lib.IntN.{ℤ, pos, negsuc, ◌*ℤ◌, *ℤ-one, one}
 use lib.Signed.{◌<ℤ◌, ◌≤ℤ◌}
 use Rattle.std.proofs.lemmas.Int.{ints}
-use Rattle.sg_segment.proofs.Ring.{sums, products, nonneg_diff-mul, lt-mul_right, lt-cancel_right}
-use Rattle.sg_segment.proofs.Comparisons.{left_true, right_true}
+use Rattle.sg_algebra.proofs.Ring.{sums, products, nonneg_diff-mul, lt-mul_right}
+use Rattle.sg_algebra.proofs.Cancelling.{lt-cancel_right}
+use Rattle.sg_algebra.proofs.Comparisons.{left_true, right_true, either_true}
 use mathlib.Core.Bool.{◌&&◌, ◌||◌}
-use Rattle.sg_distance.proofs.Comparisons.{either_true}
-use Rattle.sg_heights.proofs.Seen.{One}
-use Rattle.sg_heights.proofs.Statuses.{both_layers}
+use Rattle.sg_heights.specs.Layers.{One, both_layers}
 use Rattle.sg_heights.specs.Tallies.{entry}
 use Rattle.sg_shape.specs.Plane.{Point, Parts, Status, In, Bd, Out, status}
 use Rattle.sg_shape.specs.Shapes.{parts_of}

@@ -1,32 +1,35 @@
 ghost use Rattle.std.specs.Prelude.{◌≡◌, ◌^◌, IfOk, OnOk};
+ghost use Rattle.std.specs.BinaryHeap.{IsHeap, heap_items};
 ghost use Rattle.sg_segment.specs.Ranges.{IsRatio};
+ghost use Rattle.sg_sweep.specs.Events.{event_order};
 ghost use Rattle.sg_shape.specs.Matrix.{IsMatrix};
 ghost use Rattle.sg_shape.specs.Plane.{Parts};
 ghost use Rattle.sg_shape.specs.Shapes.{parts_of};
 ghost use Rattle.sg_shape.specs.Sound.{IsSound};
 ghost use Rattle.sg_heights.specs.Tallies.{AllBelow};
 ghost use Rattle.sg_sweep.specs.Pieces.{tags};
-ghost use Rattle.sg_sweep.specs.Steps.{IsWalked, IsFanned, IsStep};
+ghost use Rattle.sg_sweep.specs.Steps.{IsWalked, IsFanned, IsTurn};
 ghost use Rattle.sg_sweep.specs.Aims.{IsFound, only_outside};
 ghost use Rattle.sg_sweep.specs.Rungs.{Covers, IsWanted};
 
 use crate::aims::Aim;
-use crate::crossings::first_crossing;
 use crate::done::{is_done, no_pairs};
+use crate::events::Event;
 use crate::fronts::{count_begun, first_of, replace, rest_of, strands_between, strands_from};
 use crate::parts::pieces_of;
 use crate::pieces::Piece;
+use crate::queues::{due_events, next_height, queue_crossings, queue_ends, queue_fan};
 use crate::shares::shares_of;
 use crate::sorting::{sort_above, sort_at};
-use crate::spots::next_spot;
 use crate::stops::stops_at;
 use crate::strand::Strand;
 use crate::strands::{pieces_on, stops_on, strands_above, turns_on};
-use crate::windows::{left_end, right_end};
+use crate::windows::window;
 use sg_heights::walk_stops;
-use sg_segment::{Ratio, whole};
+use sg_segment::Ratio;
 use sg_shape::{Matrix, Shape};
 use std::alloc::{AllocError, Global};
+use std::collections::BinaryHeap;
 
 /// Enters the pairs of statuses of a window of a height: of the points between its first stop and its last, and beside them.
 fn walk_height(
@@ -70,22 +73,28 @@ fn walk_above(
 fn step(
     alloc: Global,
     order: &mut Vec<Strand>,
+    queue: &mut BinaryHeap<Event>,
     taken: &[Piece],
     height: Ratio,
     met: &mut Matrix,
 ) -> Result<(), AllocError>
-    requires { IsRatio height }
-    ensures { OnOk result (IsStep order.old.items (tags taken.now) height.top height.bottom met.old met.new order.new.items) }
+    requires height { IsRatio height }
+    requires heap { IsHeap event_order (heap_items queue.old) }
+    ensures heap { IsHeap event_order (heap_items queue.new) }
+    ensures turn { OnOk result (IsTurn order.old.items (tags taken.now) height met.old met.new order.new.items (heap_items queue.old) (heap_items queue.new)) }
 {
     let mut begun = stops_at(alloc, taken, height)?;
     sort_at(&mut begun, height)?;
-    let from = left_end(order, &begun, height);
-    let to = right_end(order, &begun, from, height);
-    let ahead = turns_on(strands_from(order, to));
-    let front = pieces_on(alloc, strands_between(order, from, to), taken)?;
+    let due = due_events(alloc, queue, height)?;
+    let part = window(order, &due, &begun, height);
+    let ahead = turns_on(strands_from(order, part.to));
+    let front = pieces_on(alloc, strands_between(order, part.from, part.to), taken)?;
     walk_height(alloc, &front, height, &ahead, met)?;
     let fan = walk_above(alloc, &front, height, &ahead, met)?;
-    replace(alloc, order, from, to, &fan)
+    replace(alloc, order, part.from, part.to, &fan)?;
+    queue_ends(taken, height, queue)?;
+    queue_fan(order, part.from, &fan, queue)?;
+    Ok(())
 }
 
 /// No pair of statuses but that of the points outside both.
@@ -93,15 +102,8 @@ fn only_outside() -> Matrix
     ensures { result ≡ only_outside }
 {
     Matrix {
-        ii: false,
-        ib: false,
-        io: false,
-        bi: false,
-        bb: false,
-        bo: false,
-        oi: false,
-        ob: false,
         oo: true,
+        ..Matrix::none()
     }
 }
 
@@ -112,19 +114,23 @@ fn sweep(alloc: Global, pieces: &[Piece], aim: &Aim) -> Result<Matrix, AllocErro
 {
     let (first, later) = shares_of(alloc, pieces, aim)?;
     let mut met = only_outside();
-    let mut height = aim.start();
-    let mut order = walk_above(alloc, &first, height, &turns_on(&[]), &mut met)?;
+    let start = aim.start();
+    let mut order = walk_above(alloc, &first, start, &turns_on(&[]), &mut met)?;
+    let mut queue = BinaryHeap::new(alloc);
+    queue_ends(&first, start, &mut queue)?;
+    queue_crossings(&order, &mut queue)?;
     let mut begun = 0;
-    while let Some(y) = next_spot(&order, rest_of(&later, begun), height) {
-        let next = first_crossing(&order, whole(y));
-        if is_done(&met, aim, next) {
+    let mut next = next_height(&queue, &later);
+    while let Some(height) = next {
+        if is_done(&met, aim, height) {
             return Ok(met);
         }
         let waiting = rest_of(&later, begun);
-        let count = count_begun(waiting, next);
-        step(alloc, &mut order, first_of(waiting, count), next, &mut met)?;
+        let count = count_begun(waiting, height);
+        let taken = first_of(waiting, count);
+        step(alloc, &mut order, &mut queue, taken, height, &mut met)?;
         begun += count;
-        height = next;
+        next = next_height(&queue, rest_of(&later, begun));
     }
     Ok(met)
 }

@@ -1,19 +1,22 @@
-use Rattle.std.proofs.Common.{◌≤◌, ◌++◌, length, drop}
+use Rattle.std.proofs.Common.{◌≤◌, length, drop, heap_items}
+use Rattle.std.specs.BinaryHeap.{IsHeap}
+use Rattle.std.specs.Prelude.{IfSome}
 use Rattle.sg_segment.specs.Ranges.{IsRatio}
+use Rattle.sg_sweep.specs.Events.{event_order}
 use Rattle.sg_sweep.specs.Fronts.{IsRising}
 use Rattle.sg_sweep.specs.Pieces.{tags}
-use Rattle.sg_sweep.specs.Rungs.{rungs_left}
-use Rattle.sg_sweep.specs.Strands.{strand_tags}
-use Rattle.sg_sweep.proofs.Turns.{Kept}
+use Rattle.sg_sweep.proofs.Moving.{edges_of, Passed, ComesNext, heights_left}
 use Rattle.sg_sweep.proofs.sweep.sweep.Given as goal
 
-abbrev pub invariant-loop-y : goal.invariant-loop-y
-invariant-loop-y l = record {
-  range : IsRatio l.height;
+abbrev pub invariant-loop-next : goal.invariant-loop-next
+invariant-loop-next l = record {
+  heap : IsHeap event_order (heap_items l.queue);
   rising : IsRising (tags l.later.items);
   within : l.begun ≤ length l.later.items;
-  kept : Kept l.pieces l.aim.from l.aim.to l.later.items l.begun l.order.items l.met l.height.top l.height.bottom;
+  passed : Passed l.pieces l.first.items l.later.items l.aim.from l.aim.to l.begun l.order.items l.met (heap_items l.queue);
+  comes : ComesNext (heap_items l.queue) (drop l.begun l.later.items) l.next;
+  range : IfSome l.next (λ h. IsRatio h);
 }
 
-abbrev pub decreases-loop-y : goal.decreases-loop-y
-decreases-loop-y l = rungs_left (strand_tags l.order.items ++ tags (drop l.begun l.later.items)) l.height.top l.height.bottom
+abbrev pub decreases-loop-next : goal.decreases-loop-next
+decreases-loop-next l = heights_left (edges_of l.first.items l.later.items) l.next
