@@ -5,8 +5,8 @@ use Rattle.std.proofs.lemmas.Bool.Decides.{Decides-int_eq}
 use mathlib.Core.Bool.{◌&&◌, ◌||◌}
 use lib.IntN.{ℤ, pos, ◌*ℤ◌}
 use lib.Signed.{◌<ℤ◌, lt_z, le_z}
-use Rattle.sg_plane.proofs.Ring.{sums}
-use Rattle.sg_plane.proofs.Comparisons.{true-from_le, lt-from_true, same_test, left_true, right_true, both, either_true, or_left, or_right, is_false}
+use Rattle.sg_algebra.proofs.Ring.{sums}
+use Rattle.sg_algebra.proofs.Comparisons.{true-from_le, lt-from_true, same_test, left_true, right_true, both, either_true, or_left, or_right, is_false}
 use Rattle.sg_shape.specs.declared.bounds.Bounds.{Bounds}
 use Rattle.sg_shape.specs.declared.cells.CellBox.{CellBox}
 use Rattle.sg_shape.specs.declared.matrices.Matrix.{Matrix}

@@ -6,15 +6,19 @@ use mathlib.Core.Bool.{◌&&◌, ◌||◌}
 use mathlib.Core.Logic.{◌⊎◌, inl, inr}
 use lib.IntN.{ℤ, pos, ◌+ℤ◌, ◌-ℤ◌, ◌*ℤ◌, *ℤ_comm, zero-*ℤ}
 use lib.Signed.{◌<ℤ◌, ◌≤ℤ◌, lt_z, le_z}
-use Rattle.sg_distance.proofs.Integers.{sums, products, mul-nonneg, lt-mul_right, le-cancel_right, lt-cancel_right, Cmp, cmp, less, same, more}
+use Rattle.sg_algebra.proofs.Ring.{sums, products, mul-nonneg, lt-mul_right}
+use Rattle.sg_algebra.proofs.Cancelling.{le-cancel_right, lt-cancel_right}
+use Rattle.sg_algebra.specs.Orders.{Cmp, cmp, less, same, more}
 use Rattle.sg_distance.proofs.Signs.{p*p, n*n}
-use Rattle.sg_distance.proofs.Comparisons.{le-from_true, true-from_le, lt-from_true, true-from_lt, left_true, right_true, both, either_true, or_left, or_right}
+use Rattle.sg_algebra.proofs.Comparisons.{le-from_true, true-from_le, lt-from_true, true-from_lt, left_true, right_true, both, either_true, or_left, or_right}
 use Rattle.sg_distance.proofs.Mix.{Along, along-on}
 use Rattle.sg_distance.proofs.Walk.{Even, MetIn, walk_rings}
 use Rattle.sg_distance.proofs.Reach.{same_parity}
 use Rattle.sg_distance.proofs.Soundness.{sound_of}
-use Rattle.sg_nearby.proofs.Points.{areas_are, point_is}
-use Rattle.sg_distance.specs.Figure.{xor, parity, on_any, Closed, AllClosed}
+use Rattle.sg_distance.proofs.ShapeTests.{areas_are}
+use Rattle.sg_celltest.proofs.EdgePoints.{point_is}
+use Rattle.sg_segment.specs.Statuses.{xor, parity}
+use Rattle.sg_distance.specs.Figure.{on_any, Closed, AllClosed}
 use Rattle.sg_distance.specs.Shapes.{lines_of, area_of}
 use Rattle.sg_segment.specs.Cells.{is_inside}
 use Rattle.sg_shape.specs.declared.spots.Spot.{Spot}

@@ -105,8 +105,6 @@ fn ring_around(alloc: Global, low: Spot, high: Spot) -> Result<Shape, AllocError
     };
     let ring = path_of(alloc, &[low, low_right, high, high_left, low])?;
     let mut rings = Rings::new(alloc);
-    match rings.push(ring) {
-        Ok(()) => Ok(Shape::Polygon(rings)),
-        Err(_back) => Err(AllocError),
-    }
+    rings.push(ring)?;
+    Ok(Shape::Polygon(rings))
 }

@@ -4,28 +4,25 @@ use mathlib.Core.Bool.{◌&&◌, ◌||◌}
 use mathlib.Core.Logic.{◌⊎◌, inl, inr}
 use lib.IntN.{◌+ℤ◌, ◌-ℤ◌, ◌*ℤ◌}
 use lib.Signed.{◌<ℤ◌, ◌≤ℤ◌, lt_z, le_z}
-use Rattle.sg_distance.proofs.Integers.{sums, plus_one, minus_one}
-use Rattle.sg_distance.proofs.Comparisons.{le-from_true, lt-from_true, left_true, right_true, either_true}
-use Rattle.sg_distance.proofs.Mix.{on_edge-turned, or_swap}
+use Rattle.sg_algebra.proofs.Ring.{sums, plus_one, minus_one}
+use Rattle.sg_algebra.proofs.Comparisons.{le-from_true, lt-from_true, left_true, right_true, either_true, is_false}
+use Rattle.sg_algebra.proofs.Edges.{on_edge-turned, crosses_ray-turned}
 use Rattle.sg_distance.proofs.Bounds.{figure_in}
-use Rattle.sg_distance.specs.Figure.{xor, parity, has, Sound}
-use Rattle.sg_plane.proofs.Comparisons.{is_false}
+use Rattle.sg_segment.specs.Statuses.{xor, parity}
+use Rattle.sg_distance.specs.Figure.{has, Sound}
 use Rattle.sg_shape.specs.declared.bounds.Bounds.{Bounds}
 use Rattle.sg_shape.specs.declared.cells.CellBox.{CellBox}
 use Rattle.sg_shape.specs.declared.spots.Spot.{Spot}
 use Rattle.sg_shape.specs.declared.spots.Edge.{Edge}
 use Rattle.sg_shape.specs.Bounds.{IsInside}
 use Rattle.sg_shape.specs.Grown.{PointIn}
-use Rattle.sg_shape.specs.Plane.{Point, Parts, on_edge, crosses_ray, is_above as above_point, passes_right}
+use Rattle.sg_shape.specs.Plane.{Point, Parts, on_edge, crosses_ray}
 use Rattle.sg_shape.specs.Boxes.{in_box, within}
 use Rattle.sg_shape.specs.Sound.{is_out, coord_ok}
-use Rattle.sg_nearby.specs.Nearby.{is_left, is_right, is_below, is_above, are_beside}
+use Rattle.sg_nearby.specs.Nearby.{lies_left, lies_right, lies_below, lies_above, are_beside}
 
 abbrev edge : Spot → Spot → Edge
 edge u v = record { from = u; to = v }
-
-crosses-turned : (u v : Spot) (p : Point) → crosses_ray (edge v u) p ≡ crosses_ray (edge u v) p
-crosses-turned u v p = or_swap (above_point u p && not (above_point v p) && passes_right v u p) (above_point v p && not (above_point u p) && passes_right u v p)
 
 -- the way over the second spot and the short way are one to the point
 pub record Idle (s t u : Spot) (p : Point) : Type 0 where
@@ -63,8 +60,8 @@ idle_by b s t u p i j k out =
     record {
       first = n.0;
       second = n.1.0;
-      short = is_false (on_edge (edge s u) p) (λ h. absurd (let z : true ≡ false = sym (on_edge-turned s u p h) ∙ n.1.1.0 in cc));
-      odd = by_sum (crosses_ray (edge s t) p) (crosses_ray (edge t u) p) (crosses_ray (edge u s) p) n.1.1.1 ∙ crosses-turned s u p;
+      short = is_false (on_edge (edge s u) p) (λ h. absurd (let z : true ≡ false = sym (on_edge-turned s u p ∙ h) ∙ n.1.1.0 in cc));
+      odd = by_sum (crosses_ray (edge s t) p) (crosses_ray (edge t u) p) (crosses_ray (edge u s) p) n.1.1.1 ∙ crosses_ray-turned s u p;
     }
 
 -- ---- within the limits
@@ -116,9 +113,9 @@ module _ (c : CellBox) (s t u : Spot) (p : Point) (i : In s) (j : In t) (k : In 
   over : pos 1 ≤ℤ pos p.n
   over = omega (arith, sums, p.is_over)
 
-  by_left : (is_left c s && is_left c t && is_left c u) ≡ true → Idle s t u p
+  by_left : (lies_left c s && lies_left c t && lies_left c u) ≡ true → Idle s t u p
   by_left h =
-      let e = three (is_left c s) (is_left c t) (is_left c u) h in
+      let e = three (lies_left c s) (lies_left c t) (lies_left c u) h in
       idle_by (record { xmin = neg_ℤ (pos 16000000); ymin = neg_ℤ (pos 16000000); xmax = c.xlow -ℤ pos 1; ymax = pos 16000000 }) s t u p
       (inside s i (lt-from_true s.x c.xlow e.0)) (inside t j (lt-from_true t.x c.xlow e.1.0)) (inside u k (lt-from_true u.x c.xlow e.1.1))
       (λ q. let a : p.x ≤ℤ ((c.xlow -ℤ pos 1) *ℤ pos p.n) = q.right in
@@ -130,9 +127,9 @@ module _ (c : CellBox) (s t u : Spot) (p : Point) (i : In s) (j : In t) (k : In 
       inside : (v : Spot) → In v → v.x <ℤ c.xlow → IsInside (record { xmin = neg_ℤ (pos 16000000); ymin = neg_ℤ (pos 16000000); xmax = c.xlow -ℤ pos 1; ymax = pos 16000000 }) v
       inside v n l = record { left = n.left; right = omega (arith, sums); below = n.below; above = n.above }
 
-  by_right : (is_right c s && is_right c t && is_right c u) ≡ true → Idle s t u p
+  by_right : (lies_right c s && lies_right c t && lies_right c u) ≡ true → Idle s t u p
   by_right h =
-      let e = three (is_right c s) (is_right c t) (is_right c u) h in
+      let e = three (lies_right c s) (lies_right c t) (lies_right c u) h in
       idle_by (record { xmin = c.xhigh +ℤ pos 1; ymin = neg_ℤ (pos 16000000); xmax = pos 16000000; ymax = pos 16000000 }) s t u p
       (inside s i (lt-from_true c.xhigh s.x e.0)) (inside t j (lt-from_true c.xhigh t.x e.1.0)) (inside u k (lt-from_true c.xhigh u.x e.1.1))
       (λ q. let a : ((c.xhigh +ℤ pos 1) *ℤ pos p.n) ≤ℤ p.x = q.left in
@@ -144,9 +141,9 @@ module _ (c : CellBox) (s t u : Spot) (p : Point) (i : In s) (j : In t) (k : In 
       inside : (v : Spot) → In v → c.xhigh <ℤ v.x → IsInside (record { xmin = c.xhigh +ℤ pos 1; ymin = neg_ℤ (pos 16000000); xmax = pos 16000000; ymax = pos 16000000 }) v
       inside v n l = record { left = omega (arith, sums); right = n.right; below = n.below; above = n.above }
 
-  by_below : (is_below c s && is_below c t && is_below c u) ≡ true → Idle s t u p
+  by_below : (lies_below c s && lies_below c t && lies_below c u) ≡ true → Idle s t u p
   by_below h =
-      let e = three (is_below c s) (is_below c t) (is_below c u) h in
+      let e = three (lies_below c s) (lies_below c t) (lies_below c u) h in
       idle_by (record { xmin = neg_ℤ (pos 16000000); ymin = neg_ℤ (pos 16000000); xmax = pos 16000000; ymax = c.ylow -ℤ pos 1 }) s t u p
       (inside s i (lt-from_true s.y c.ylow e.0)) (inside t j (lt-from_true t.y c.ylow e.1.0)) (inside u k (lt-from_true u.y c.ylow e.1.1))
       (λ q. let a : p.y ≤ℤ ((c.ylow -ℤ pos 1) *ℤ pos p.n) = q.above in
@@ -158,9 +155,9 @@ module _ (c : CellBox) (s t u : Spot) (p : Point) (i : In s) (j : In t) (k : In 
       inside : (v : Spot) → In v → v.y <ℤ c.ylow → IsInside (record { xmin = neg_ℤ (pos 16000000); ymin = neg_ℤ (pos 16000000); xmax = pos 16000000; ymax = c.ylow -ℤ pos 1 }) v
       inside v n l = record { left = n.left; right = n.right; below = n.below; above = omega (arith, sums) }
 
-  by_above : (is_above c s && is_above c t && is_above c u) ≡ true → Idle s t u p
+  by_above : (lies_above c s && lies_above c t && lies_above c u) ≡ true → Idle s t u p
   by_above h =
-      let e = three (is_above c s) (is_above c t) (is_above c u) h in
+      let e = three (lies_above c s) (lies_above c t) (lies_above c u) h in
       idle_by (record { xmin = neg_ℤ (pos 16000000); ymin = c.yhigh +ℤ pos 1; xmax = pos 16000000; ymax = pos 16000000 }) s t u p
       (inside s i (lt-from_true c.yhigh s.y e.0)) (inside t j (lt-from_true c.yhigh t.y e.1.0)) (inside u k (lt-from_true c.yhigh u.y e.1.1))
       (λ q. let a : ((c.yhigh +ℤ pos 1) *ℤ pos p.n) ≤ℤ p.y = q.below in
@@ -174,10 +171,10 @@ module _ (c : CellBox) (s t u : Spot) (p : Point) (i : In s) (j : In t) (k : In 
 
   by_side : are_beside c s t u ≡ true → Idle s t u p
   by_side h =
-      let lefts = is_left c s && is_left c t && is_left c u in
-      let rights = is_right c s && is_right c t && is_right c u in
-      let belows = is_below c s && is_below c t && is_below c u in
-      let aboves = is_above c s && is_above c t && is_above c u in
+      let lefts = lies_left c s && lies_left c t && lies_left c u in
+      let rights = lies_right c s && lies_right c t && lies_right c u in
+      let belows = lies_below c s && lies_below c t && lies_below c u in
+      let aboves = lies_above c s && lies_above c t && lies_above c u in
       elim (either_true ((lefts || rights) || belows) aboves h) [
         | inl f ↦ elim (either_true (lefts || rights) belows f) [
           | inl g ↦ elim (either_true lefts rights g) [ inl l ↦ by_left l | inr r ↦ by_right r ]

@@ -1,20 +1,23 @@
 -- Rings that are replaced one after another by such as do for them in a box.
 use Rattle.std.proofs.Common.{ℕ, ◌≡◌, ◌+◌, ◌<◌, ◌≤◌, arith, refl, sym, ap, ◌∙◌, subst, Bool, true, false, cond, List, [], ◌∷◌, ◌++◌, length, get_or, drop, ◌==◌, nat_lt, Option, None, Some, option_map, append_assoc, inl, inr, ◌⊎◌}
-use Rattle.std.specs.List.{All, position_from, flat_map, list_any}
+use Rattle.std.specs.List.{All, Contains, position_from, flat_map, list_any}
 use Rattle.std.proofs.lemmas.List.{length-append, drop_more, drop_all}
+use Rattle.std.proofs.lemmas.List.Elements.{All-contains, All-contains_itself, All-weaker}
 use mathlib.Core.Bool.{◌||◌}
-use Rattle.sg_distance.specs.Figure.{xor, parity, on_any}
+use Rattle.sg_segment.proofs.Parity.{parity-append}
+use Rattle.sg_segment.specs.Statuses.{xor, parity}
+use Rattle.sg_distance.specs.Figure.{on_any}
 use Rattle.sg_plane.proofs.Lists.{Each, each_append, each_left, each_right}
 use Rattle.sg_shape.specs.declared.cells.CellBox.{CellBox}
 use Rattle.sg_shape.specs.declared.spots.Spot.{Spot}
 use Rattle.sg_shape.specs.declared.spots.Edge.{Edge}
 use Rattle.sg_shape.specs.declared.shapes.Shape.TheVariants as shape
 use Rattle.sg_shape.specs.declared.shapes.ShapeFault.TheVariants as fault
-use Rattle.sg_shape.specs.Plane.{Point, on_edge, crosses_ray, edges, edges_of}
+use Rattle.sg_shape.specs.Plane.{Point, In, Bd, Out, on_edge, crosses_ray, edges, edges_of}
 use Rattle.sg_shape.specs.Boxes.{in_box}
 use Rattle.sg_shape.specs.Sound.{IsSound, is_out, is_open, is_short, or_else}
-use Rattle.sg_nearby.specs.Nearby.{SameIn, IsThin}
-use Rattle.sg_nearby.proofs.Points.{point_is}
+use Rattle.sg_nearby.specs.Nearby.{SameIn, HasSpotsOf, IsThin}
+use Rattle.sg_nearby.proofs.Points.{area_is, line_is}
 use Rattle.sg_nearby.proofs.Thinning.{each_of, all_of}
 
 abbrev Fits : Spot → Type 0
@@ -108,16 +111,6 @@ any-append f (e ∷ es) fs = ap (λ (b : Bool). f e || b) (any-append f es fs) �
     or_assoc true b c = refl
     or_assoc false b c = refl
 
-parity-append : (es fs : List Edge) (p : Point) → parity (es ++ fs) p ≡ xor (parity es p) (parity fs p)
-parity-append [] fs p = refl
-parity-append (e ∷ es) fs p = ap (xor (crosses_ray e p)) (parity-append es fs p) ∙ xor_assoc (crosses_ray e p) (parity es p) (parity fs p)
-  where
-    xor_assoc : (a b c : Bool) → xor a (xor b c) ≡ xor (xor a b) c
-    xor_assoc true true true = refl
-    xor_assoc true true false = refl
-    xor_assoc true false c = refl
-    xor_assoc false b c = refl
-
 on_at : (p : Point) (xs ys : List (List Spot)) (r s : List Spot) → on_any (edges s) p ≡ on_any (edges r) p → on_any (edges_of (xs ++ s ∷ ys)) p ≡ on_any (edges_of (xs ++ r ∷ ys)) p
 on_at p [] ys r s e =
     any-append (λ e. on_edge e p) (edges s) (edges_of ys) ∙ ap (λ (b : Bool). b || on_any (edges_of ys) p) e ∙ sym (any-append (λ e. on_edge e p) (edges r) (edges_of ys))
@@ -133,15 +126,34 @@ pub record Replaced (c : CellBox) (now all : List (List Spot)) : Type 0 where
   pub good : Good now
   pub on : (p : Point) → in_box c p ≡ true → on_any (edges_of now) p ≡ on_any (edges_of all) p
   pub odd : (p : Point) → in_box c p ≡ true → parity (edges_of now) p ≡ parity (edges_of all) p
+  pub among : Each (Contains (flat_map (λ ring. ring) all)) (flat_map (λ ring. ring) now)
 
 pub replaced_first : (c : CellBox) (rings : List (List Spot)) → IsSound (shape.Polygon rings) → Replaced c ([] ++ drop 0 rings) rings
-replaced_first c rings s = record { good = good_of rings s; on = λ p h. refl; odd = λ p h. refl }
+replaced_first c rings s = record {
+  good = good_of rings s;
+  on = λ p h. refl;
+  odd = λ p h. refl;
+  among = (let all = flat_map (λ ring. ring) rings in each_of (Contains all) all (All-contains_itself all));
+}
+
+-- the spots of the one ring are the other's
+among_at : (P : Spot → Type 0) (xs ys : List (List Spot)) (r s : List Spot) → All (Contains r) s → Each P (flat_map (λ ring. ring) (xs ++ r ∷ ys)) → Each P (flat_map (λ ring. ring) (xs ++ s ∷ ys))
+among_at P xs ys r s t h =
+    let before = flat_map (λ ring. ring) xs in
+    let behind = flat_map (λ ring. ring) ys in
+    let w : Each P (before ++ (r ++ behind)) = subst (Each P) (flat_at xs ys r) h in
+    let v : Each P (r ++ behind) = each_right P before (r ++ behind) w in
+    let of_r : All P r = all_of P r (each_left P r behind v) in
+    subst (Each P) (sym (flat_at xs ys s))
+    (each_append P before (s ++ behind) (each_left P before (r ++ behind) w)
+    (each_append P s behind (each_of P s (All-weaker (Contains r) P (λ x k. All-contains P r x of_r k) s t)) (each_right P r behind v)))
 
 replaced_at : (c : CellBox) (xs ys all : List (List Spot)) (r s : List Spot) → IsThin c r s → Replaced c (xs ++ r ∷ ys) all → Replaced c (xs ++ s ∷ ys) all
 replaced_at c xs ys all r s t k = record {
   good = good_at c xs ys r s k.good t;
   on = λ p h. on_at p xs ys r s (t.on p h) ∙ k.on p h;
   odd = λ p h. odd_at p xs ys r s (t.odd p h) ∙ k.odd p h;
+  among = among_at (Contains (flat_map (λ ring. ring) all)) xs ys r s t.among k.among;
 }
 
 next : (rings : List (List Spot)) (i : ℕ) (r : List Spot) → i < length rings → r ≡ get_or rings i r → drop i rings ≡ r ∷ drop (i + 1) rings
@@ -168,15 +180,17 @@ append_nil (x ∷ xs) = ap (λ r. x ∷ r) (append_nil xs)
 replaced_all : (c : CellBox) (rings list : List (List Spot)) (i : ℕ) → length rings ≤ i → Replaced c (list ++ drop i rings) rings → Replaced c list rings
 replaced_all c rings list i h k = subst (λ (z : List (List Spot)). Replaced c z rings) (ap (λ (z : List (List Spot)). list ++ z) (drop_all i rings h) ∙ append_nil list) k
 
-pub same_rings : (c : CellBox) (rings list : List (List Spot)) (i : ℕ) → IsSound (shape.Polygon rings) → length rings ≤ i → Replaced c (list ++ drop i rings) rings → SameIn c (shape.Polygon list) (shape.Polygon rings)
-same_rings c rings list i s h k p w =
+pub same_rings : (c : CellBox) (rings list : List (List Spot)) (i : ℕ) → length rings ≤ i → Replaced c (list ++ drop i rings) rings → SameIn c (shape.Polygon list) (shape.Polygon rings)
+same_rings c rings list i h k p w =
     let r = replaced_all c rings list i h k in
-    point_is (shape.Polygon list) (sound_of list r.good) p
-    ∙ (λ j. r.on p w j || r.odd p w j)
-    ∙ sym (point_is (shape.Polygon rings) s p)
+    area_is list p ∙ (λ j. cond (r.on p w j) Bd (cond (r.odd p w j) In Out)) ∙ sym (area_is rings p)
 
 pub sound_rings : (c : CellBox) (rings list : List (List Spot)) (i : ℕ) → length rings ≤ i → Replaced c (list ++ drop i rings) rings → IsSound (shape.Polygon list)
 sound_rings c rings list i h k = sound_of list (replaced_all c rings list i h k).good
+
+pub spots_of_rings : (c : CellBox) (rings list : List (List Spot)) (i : ℕ) → length rings ≤ i → Replaced c (list ++ drop i rings) rings → HasSpotsOf (shape.Polygon list) (shape.Polygon rings)
+spots_of_rings c rings list i h k =
+    all_of (Contains (flat_map (λ ring. ring) rings)) (flat_map (λ ring. ring) list) (replaced_all c rings list i h k).among
 
 -- ---- lines
 record GoodLine (path : List Spot) : Type 0 where
@@ -209,8 +223,5 @@ sound_line c path thin s t =
     by_length h (inl l) = omega arith
     by_length h (inr l) = omega arith
 
-pub same_line : (c : CellBox) (path thin : List Spot) → IsSound (shape.Line path) → IsThin c path thin → SameIn c (shape.Line thin) (shape.Line path)
-same_line c path thin s t p w =
-    point_is (shape.Line thin) (sound_line c path thin s t) p
-    ∙ ap (λ (b : Bool). b || false) (any-append (λ e. on_edge e p) (edges thin) [] ∙ ap (λ (b : Bool). b || false) (t.on p w) ∙ sym (any-append (λ e. on_edge e p) (edges path) []))
-    ∙ sym (point_is (shape.Line path) s p)
+pub same_line : (c : CellBox) (path thin : List Spot) → IsThin c path thin → SameIn c (shape.Line thin) (shape.Line path)
+same_line c path thin t p w = line_is thin p ∙ (λ j. cond (t.tips p j) Bd (cond (t.on p w j) In Out)) ∙ sym (line_is path p)

@@ -1,10 +1,12 @@
 -- A path without one of its spots, where the way over that spot and the short way are one to the points of a box.
 use Rattle.std.proofs.Common.{◌≡◌, refl, sym, ap, ◌∙◌, Bool, true, false, List, [], ◌∷◌, ◌++◌}
-use mathlib.Core.Bool.{◌||◌, not}
-use Rattle.sg_distance.specs.Figure.{xor, parity, on_any}
+use mathlib.Core.Bool.{◌&&◌, ◌||◌, not}
+use Rattle.sg_segment.proofs.Parity.{xor_assoc}
+use Rattle.sg_segment.specs.Statuses.{xor, parity}
+use Rattle.sg_distance.specs.Figure.{on_any}
 use Rattle.sg_shape.specs.declared.cells.CellBox.{CellBox}
 use Rattle.sg_shape.specs.declared.spots.Spot.{Spot}
-use Rattle.sg_shape.specs.Plane.{Point, on_edge, crosses_ray, edges, edges_from, last_of, same_spot}
+use Rattle.sg_shape.specs.Plane.{Point, on_edge, crosses_ray, edges, edges_from, last_of, same_spot, is_at, ends_at}
 use Rattle.sg_shape.specs.Boxes.{in_box}
 use Rattle.sg_shape.specs.Sound.{is_open}
 use Rattle.sg_nearby.proofs.Beside.{Idle}
@@ -14,15 +16,10 @@ pub record Alike (c : CellBox) (ss ts : List Spot) : Type 0 where
   pub on : (p : Point) → in_box c p ≡ true → on_any (edges ss) p ≡ on_any (edges ts) p
   pub odd : (p : Point) → in_box c p ≡ true → parity (edges ss) p ≡ parity (edges ts) p
   pub ends : is_open ss ≡ is_open ts
+  pub tips : (p : Point) → ends_at p ss ≡ ends_at p ts
 
 pub alike_first : (c : CellBox) (ss : List Spot) → Alike c ss ss
-alike_first c ss = record { on = λ p h. refl; odd = λ p h. refl; ends = refl }
-
-xor_assoc : (a b c : Bool) → xor a (xor b c) ≡ xor (xor a b) c
-xor_assoc true true true = refl
-xor_assoc true true false = refl
-xor_assoc true false c = refl
-xor_assoc false b c = refl
+alike_first c ss = record { on = λ p h. refl; odd = λ p h. refl; ends = refl; tips = λ p. refl }
 
 -- from a first spot on
 on_from : (p : Point) (s t u : Spot) → Idle s t u p → (k : Spot) (ks rest : List Spot) → on_any (edges_from k (ks ++ s ∷ u ∷ rest)) p ≡ on_any (edges_from k (ks ++ s ∷ t ∷ u ∷ rest)) p
@@ -59,9 +56,14 @@ ends_same : (s t u : Spot) (ks rest : List Spot) → is_open (ks ++ s ∷ u ∷ 
 ends_same s t u [] rest = refl
 ends_same s t u (k ∷ ks) rest = ap (λ (l : Spot). not (same_spot k l)) (last_same s t u k ks rest)
 
+tips_same : (p : Point) (s t u : Spot) (ks rest : List Spot) → ends_at p (ks ++ s ∷ u ∷ rest) ≡ ends_at p (ks ++ s ∷ t ∷ u ∷ rest)
+tips_same p s t u [] rest = refl
+tips_same p s t u (k ∷ ks) rest = ap (λ (l : Spot). not (same_spot k l) && (is_at k p || is_at l p)) (last_same s t u k ks rest)
+
 pub shorter : (c : CellBox) (s t u : Spot) (ks rest path : List Spot) → ((p : Point) → in_box c p ≡ true → Idle s t u p) → Alike c (ks ++ s ∷ t ∷ u ∷ rest) path → Alike c (ks ++ s ∷ u ∷ rest) path
 shorter c s t u ks rest path i a = record {
   on = λ p h. on_path p s t u (i p h) ks rest ∙ a.on p h;
   odd = λ p h. odd_path p s t u (i p h) ks rest ∙ a.odd p h;
   ends = ends_same s t u ks rest ∙ a.ends;
+  tips = λ p. tips_same p s t u ks rest ∙ a.tips p;
 }

@@ -1,8 +1,9 @@
 -- A path that is gone through spot by spot, while some of its spots are left out.
 use Rattle.std.proofs.Common.{ℕ, ◌≡◌, ◌+◌, ◌-◌, ◌<◌, ◌≤◌, arith, refl, sym, ap, ◌∙◌, subst, true, false, List, [], ◌∷◌, ◌++◌, length, get_or, drop, suc, zero, drop-cons, append_assoc, inl, inr, ◌⊎◌}
-use Rattle.std.specs.List.{All}
+use Rattle.std.specs.List.{All, Contains}
 use Rattle.std.proofs.lemmas.List.{length-append, drop_all}
-use Rattle.sg_distance.proofs.InTurn.{no_spot}
+use Rattle.std.proofs.lemmas.List.Elements.{Contains-get_or}
+use Rattle.sg_segment.proofs.InTurn.{no_spot}
 use Rattle.sg_distance.proofs.Soundness.{all_cons}
 use Rattle.sg_shape.specs.declared.cells.CellBox.{CellBox}
 use Rattle.sg_shape.specs.declared.spots.Spot.{Spot}
@@ -21,6 +22,7 @@ pub record Thinning (c : CellBox) (path kept : List Spot) (last : Spot) (i spare
   pub kept_is : kept ≡ front ++ last ∷ []
   pub alike : Alike c (kept ++ drop i path) path
   pub within : Each Fits kept
+  pub among : Each (Contains path) kept
   pub last_in : Fits last
   pub most : length kept ≤ i
   pub long : 4 ≤ length path → 4 + spare ≤ length kept + (length path - i)
@@ -51,6 +53,7 @@ thinning_first c (s ∷ ss) kept spare h w k q =
       kept_is = k;
       alike = subst (λ (l : List Spot). Alike c (l ++ ss) (s ∷ ss)) (sym k) (alike_first c (s ∷ ss));
       within = subst (Each Fits) (sym k) (f, tt);
+      among = subst (Each (Contains (s ∷ ss))) (sym k) (Contains-get_or (s ∷ ss) 0 no_spot (omega arith), tt);
       last_in = f;
       most = omega arith;
       long = λ l. omega arith;
@@ -70,6 +73,7 @@ thinning_keep c path kept more last i spare h w m t =
       alike = subst (λ (l : List Spot). Alike c l path)
           (ap (λ (r : List Spot). kept ++ r) (next path i h) ∙ sym (append_assoc kept (s ∷ []) (drop (i + 1) path)) ∙ ap (λ (r : List Spot). r ++ drop (i + 1) path) (sym m)) t.alike;
       within = subst (Each Fits) (sym m) (each_append Fits kept (s ∷ []) t.within (f, tt));
+      among = subst (Each (Contains path)) (sym m) (each_append (Contains path) kept (s ∷ []) t.among (Contains-get_or path i no_spot h, tt));
       last_in = f;
       most = omega arith;
       long = λ l. let b = t.long l in omega arith;
@@ -94,6 +98,7 @@ thinning_drop c path kept last i spare h w o b t =
       alike = subst (λ (l : List Spot). Alike c l path) second
           (shorter c last s u t.front rest path (idle c last s u t.last_in f k b) (subst (λ (l : List Spot). Alike c l path) first t.alike));
       within = t.within;
+      among = t.among;
       last_in = t.last_in;
       most = omega arith;
       long = λ l. let b = t.long l in omega arith;
@@ -115,9 +120,11 @@ thinning_last c path kept all last i spare h w m t =
       on = a.on;
       odd = a.odd;
       ends = a.ends;
+      tips = a.tips;
       most = let n = z.most in omega arith;
       least = by_length (cases (length path)) z;
       within = all_of Fits all z.within;
+      among = all_of (Contains path) all z.among;
     }
   where
     append_nil : (xs : List Spot) → xs ++ [] ≡ xs

@@ -1,17 +1,18 @@
 ghost use Rattle.std.specs.Prelude.{◌≡◌, ◌++◌, ◌∷◌, [], IfOk, OnOk};
 ghost use Rattle.sg_shape.specs.Sound.{IsSound};
-ghost use Rattle.sg_nearby.specs.Nearby.{SameIn};
+ghost use Rattle.sg_nearby.specs.Nearby.{SameIn, HasSpotsOf};
 
 use crate::paths::thin;
 use sg_shape::{CellBox, Path, Rings, Shape};
 use std::alloc::{AllocError, Global};
 
-/// A sound shape with the same points in the box, made of some of the shape's spots. `Err` comes for want of memory
-/// alone.
+/// A sound shape in which each point of the box has the status that it has in the shape, made of some of the shape's
+/// spots. `Err` comes for want of memory alone.
 pub fn nearby(alloc: Global, shape: &Shape, cell: &CellBox) -> Result<Shape, AllocError>
     requires sound { IsSound shape.now }
     ensures same { IfOk result (λ near. SameIn cell.now near shape.now) }
     ensures sound { IfOk result (λ near. IsSound near) }
+    ensures spots { IfOk result (λ near. HasSpotsOf near shape.now) }
 {
     match shape {
         Shape::Empty(_) | Shape::Point(_) => shape.copy(alloc),
@@ -25,6 +26,7 @@ fn thin_rings(alloc: Global, rings: &[Path], cell: &CellBox) -> Result<Rings, Al
     requires sound { IsSound (Shape.Polygon rings.now) }
     ensures same { IfOk result (λ thin. SameIn cell.now (Shape.Polygon thin) (Shape.Polygon rings.now)) }
     ensures sound { IfOk result (λ thin. IsSound (Shape.Polygon thin)) }
+    ensures spots { IfOk result (λ thin. HasSpotsOf (Shape.Polygon thin) (Shape.Polygon rings.now)) }
 {
     let mut list = Rings::new(alloc);
     for ring in rings {

@@ -1,40 +1,45 @@
--- What a relation of two shapes rests on: the heights of the points that it speaks of, and the pairs of statuses that settle it.
-use Rattle.std.specs.Prelude.{◌⊎◌, true, false, ℤ, neg_ℤ, pos, ◌<ℤ◌, ◌≤ℤ◌}
-use Rattle.std.specs.Int.{int_min, int_max}
+-- What a relation of two shapes rests on: the points that it speaks of, and the pairs of statuses that settle it.
+use Rattle.std.specs.Prelude.{Bool, true, false, ◌&&◌, ◌||◌, All, IsTrue}
 use Rattle.sg_shape.specs.declared.bounds.Bounds.{Bounds}
 use Rattle.sg_shape.specs.declared.matrices.Matrix.{Matrix}
 use Rattle.sg_shape.specs.declared.matrices.Pred.{Pred}
 use Rattle.sg_shape.specs.declared.matrices.Pred.TheVariants.{Intersects, Contains, Within, Equals, Touches}
+use Rattle.sg_shape.specs.declared.shapes.Shape.{Shape}
+use Rattle.sg_shape.specs.Bounds.{IsInside}
+use Rattle.sg_shape.specs.Boxes.{is_held}
+use Rattle.sg_shape.specs.Grown.{PointIn}
+use Rattle.sg_shape.specs.Plane.{Point, Status, is_in, is_bd}
+use Rattle.sg_shape.specs.Shapes.{spots, status_in}
+use Rattle.sg_shape.specs.Sound.{IsSound}
+use Rattle.sg_nearby.specs.Nearby.{SameIn}
+use Rattle.sg_relate.specs.Boxes.{closed}
 
--- the one stretch of numbers ends before the other begins
-abbrev pub IsGap : ℤ → ℤ → ℤ → ℤ → Type 0
-IsGap low high from to = (high <ℤ from) ⊎ (to <ℤ low)
+-- The relation speaks of a point with these statuses: of the common points, of those of the shape that is to lie in the
+-- other, or of those of either where they are to be the same.
+abbrev pub speaks_of : Pred → Status → Status → Bool
+speaks_of Intersects i j = is_held i && is_held j
+speaks_of Contains i j = is_held j
+speaks_of Within i j = is_held i
+speaks_of Equals i j = is_held i || is_held j
+speaks_of Touches i j = is_held i && is_held j
 
--- so do boxes, in x or in y
-abbrev pub AreApart : Bounds → Bounds → Type 0
-AreApart a b = IsGap a.xmin a.xmax b.xmin b.xmax ⊎ IsGap a.ymin a.ymax b.ymin b.ymax
+-- each point that it speaks of lies in the box
+abbrev pub SpeaksWithin : Pred → Bounds → Shape → Shape → Type 0
+SpeaksWithin pred box a b = (p : Point) → IsTrue (speaks_of pred (status_in a p) (status_in b p)) → PointIn box p
 
--- its lower side isn't above its upper one, and both lie within the limits of coordinates
-pub record HasHeights (b : Bounds) : Type 0 where
-  pub low : neg_ℤ (pos 16000000) ≤ℤ b.ymin
-  pub rises : b.ymin ≤ℤ b.ymax
-  pub high : b.ymax ≤ℤ pos 16000000
+-- What does for a shape in a box: a sound shape within the same bounds in which each point of the box has the same status.
+pub record StandsFor (bounds box : Bounds) (whole near : Shape) : Type 0 where
+  pub sound : IsSound near
+  pub within : All (IsInside bounds) (spots near)
+  pub same : SameIn (closed box) near whole
 
--- The heights of the points of both shapes where common points are asked for, of one shape where it is to lie in the other,
--- and of either where they are to be the same.
-abbrev pub lowest : Pred → Bounds → Bounds → ℤ
-lowest Intersects a b = int_max a.ymin b.ymin
-lowest Contains a b = b.ymin
-lowest Within a b = a.ymin
-lowest Equals a b = int_min a.ymin b.ymin
-lowest Touches a b = int_max a.ymin b.ymin
-
-abbrev pub highest : Pred → Bounds → Bounds → ℤ
-highest Intersects a b = int_min a.ymax b.ymax
-highest Contains a b = b.ymax
-highest Within a b = a.ymax
-highest Equals a b = int_max a.ymax b.ymax
-highest Touches a b = int_min a.ymax b.ymax
+-- whether a point is so related to a shape in which it has this status, or the shape to it, where their boxes allow it
+abbrev pub relates_by : Pred → Status → Bool
+relates_by Intersects s = is_held s
+relates_by Contains s = is_in s
+relates_by Within s = is_in s
+relates_by Equals s = is_in s
+relates_by Touches s = is_bd s
 
 -- no pair
 abbrev pub none : Matrix

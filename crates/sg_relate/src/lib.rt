@@ -1,8 +1,12 @@
 //! The judge of shapes: their matrix by a plane sweep, one relation by as much of the sweep as decides it, and their
 //! nearness by distances of edges.
+//!
+//! A relation speaks of the common places of both bounds alone, or these rule it out. So shapes are swept as they are near
+//! these places, and what is asked of a point is settled by its status.
 #![tactic(auto)]
 
-mod heights;
+mod boxes;
+mod points;
 mod relations;
 
 use sg_shape::{Judge, Matrix, Pred, Shape};

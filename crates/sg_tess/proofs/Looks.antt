@@ -8,7 +8,7 @@ use Rattle.sg_shape.specs.declared.shapes.Shape.{Shape}
 use Rattle.sg_shape.specs.Shapes.{parts_of}
 use Rattle.sg_shape.specs.Boxes.{MeetsBox, CoversBox, LeavesBox}
 use Rattle.sg_plane.specs.Decisions.{meets_box, covers_box, leaves_box}
-use Rattle.sg_plane.proofs.Comparisons.{same_test}
+use Rattle.sg_algebra.proofs.Comparisons.{same_test}
 use Rattle.sg_plane.proofs.Decided.{meets_box-iff, covers_box-iff, leaves_box-iff}
 use Rattle.sg_hilbert.specs.Curve.{two_to, four_to}
 use Rattle.sg_hilbert.proofs.Sides.{squares}

@@ -1,13 +1,13 @@
--- A shape that has the same points in a cell meets and covers the same children of it.
+-- A shape in which the points of a cell have the same statuses meets and covers the same children of it.
 use Rattle.std.proofs.Common.{ℕ, zero, suc, ◌≡◌, refl, sym, ap, ◌∙◌, true, cond, [], ◌∷◌, ◌++◌}
-use Rattle.sg_plane.proofs.Comparisons.{same_test}
+use Rattle.sg_algebra.proofs.Comparisons.{same_test}
 use Rattle.sg_plane.proofs.Decided.{meets_box-iff, covers_box-iff}
 use Rattle.sg_plane.specs.Decisions.{meets_box, covers_box}
 use Rattle.sg_nearby.specs.Nearby.{SameIn}
 use Rattle.sg_shape.specs.declared.cells.CellBox.{CellBox}
 use Rattle.sg_shape.specs.declared.shapes.Shape.{Shape}
 use Rattle.sg_shape.specs.Plane.{Point}
-use Rattle.sg_shape.specs.Boxes.{in_box, MeetsBox, CoversBox}
+use Rattle.sg_shape.specs.Boxes.{in_box, is_held, MeetsBox, CoversBox}
 use Rattle.sg_cells.specs.declared.marks.Mark.TheVariants.{Part, Cover}
 use Rattle.sg_cells.specs.Cells.{Grid, Cell, box_at, box_of, block_from, root, split_of}
 use Rattle.sg_cells.specs.Tess.{look_at, met, children, kids}
@@ -22,14 +22,14 @@ module _ (c : CellBox) (a b : Shape) (s : SameIn c a b) (e : CellBox) (i : (p : 
   same_meets : meets_box a e ≡ meets_box b e
   same_meets =
       same_test
-      (λ t. let m : MeetsBox a e = (meets_box-iff a e).0 t in (meets_box-iff b e).1 (m.0, sym (s m.0 (i m.0 m.2)) ∙ m.1, m.2))
-      (λ t. let m : MeetsBox b e = (meets_box-iff b e).0 t in (meets_box-iff a e).1 (m.0, s m.0 (i m.0 m.2) ∙ m.1, m.2))
+      (λ t. let m : MeetsBox a e = (meets_box-iff a e).0 t in (meets_box-iff b e).1 (m.0, sym (ap is_held (s m.0 (i m.0 m.2))) ∙ m.1, m.2))
+      (λ t. let m : MeetsBox b e = (meets_box-iff b e).0 t in (meets_box-iff a e).1 (m.0, ap is_held (s m.0 (i m.0 m.2)) ∙ m.1, m.2))
 
   same_covers : covers_box a e ≡ covers_box b e
   same_covers =
       same_test
-      (λ t. let f : CoversBox a e = (covers_box-iff a e).0 t in (covers_box-iff b e).1 (λ p h. sym (s p (i p h)) ∙ f p h))
-      (λ t. let f : CoversBox b e = (covers_box-iff b e).0 t in (covers_box-iff a e).1 (λ p h. s p (i p h) ∙ f p h))
+      (λ t. let f : CoversBox a e = (covers_box-iff a e).0 t in (covers_box-iff b e).1 (λ p h. sym (ap is_held (s p (i p h))) ∙ f p h))
+      (λ t. let f : CoversBox b e = (covers_box-iff b e).0 t in (covers_box-iff a e).1 (λ p h. ap is_held (s p (i p h)) ∙ f p h))
 
 met_same : (g : Grid) (c : Cell) (a b : Shape) → SameIn (box_of g c) a b → (d n : ℕ) → met g (look_at a) (children c d n) ≡ met g (look_at b) (children c d n)
 met_same g c a b s d zero = refl

@@ -4,8 +4,8 @@ use Rattle.std.specs.List.{All, position_from, flat_map}
 use mathlib.Core.Bool.{◌&&◌, ◌||◌, not}
 use lib.IntN.{ℤ, pos, ◌*ℤ◌}
 use lib.Signed.{◌<ℤ◌, ◌≤ℤ◌, lt_z, le_z}
-use Rattle.sg_plane.proofs.Ring.{sums, nonneg_diff-mul}
-use Rattle.sg_plane.proofs.Comparisons.{le-from_true, true-from_le, lt-from_true, true-from_lt, le-from_false, lt-from_false, left_true, right_true, both, either_true, or_left, or_right, is_false}
+use Rattle.sg_algebra.proofs.Ring.{sums, nonneg_diff-mul}
+use Rattle.sg_algebra.proofs.Comparisons.{le-from_true, true-from_le, lt-from_true, true-from_lt, le-from_false, lt-from_false, left_true, right_true, both, either_true, or_left, or_right, is_false}
 use Rattle.sg_plane.proofs.Lists.{Each, each_append}
 use Rattle.sg_plane.proofs.Bounds.{Inside, Within, within}
 use Rattle.sg_plane.proofs.Decided.{meets_box-iff}
@@ -89,7 +89,7 @@ unscaled-le a b n h k = by_test (le_z a b) refl
     by_test true e = le-from_true a b e
     by_test false e =
         let l : b <ℤ a = lt-from_false a b e in
-        let m : (b *ℤ pos n) <ℤ (a *ℤ pos n) = Rattle.sg_plane.proofs.Ring.lt-mul_right b a (pos n) (omega (arith, sums)) l in
+        let m : (b *ℤ pos n) <ℤ (a *ℤ pos n) = Rattle.sg_algebra.proofs.Ring.lt-mul_right b a (pos n) (omega (arith, sums)) l in
         absurd (let z : ⊥ = omega (arith, sums) in z)
 
 unscaled-lt : (a b : ℤ) (n : ℕ) → 1 ≤ n → (a *ℤ pos n) <ℤ (b *ℤ pos n) → a <ℤ b

@@ -32,7 +32,7 @@ pub fn tessellate<C: CellJudge>(
     ensures stands { IfOk result (λ list. Stands 4 grid.now (parts_of shape.now) list) }
     ensures empty { IsEmpty shape.now → IfOk result (λ list. list ≡ []) }
 {
-    let _cells = grid.cells();
+    grid.in_limits();
     match shape.bounds() {
         None => Ok(CellList::new(alloc)),
         Some(bounds) => {

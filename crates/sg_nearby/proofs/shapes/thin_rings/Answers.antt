@@ -3,7 +3,7 @@ use Rattle.std.specs.List.{All}
 use Rattle.sg_shape.specs.declared.spots.Spot.{Spot}
 use Rattle.sg_shape.specs.Sound.{is_out}
 use Rattle.sg_nearby.specs.Nearby.{IsThin}
-use Rattle.sg_nearby.proofs.Rings.{Replaced, replaced_first, replaced_more, at_ring, same_rings, sound_rings}
+use Rattle.sg_nearby.proofs.Rings.{Replaced, replaced_first, replaced_more, at_ring, same_rings, sound_rings, spots_of_rings}
 use Rattle.sg_nearby.proofs.shapes.thin_rings.Goals as goal
 
 pub loop-ring-init : goal.loop-ring-init
@@ -26,7 +26,10 @@ loop-ring-preserved c = record {
 }
 
 pub returns-clause-same : goal.returns-clause-same
-returns-clause-same c = same_rings c.args.cell.now c.args.rings.now c.loop-ring.list c.loop-ring.ring-index c.requires.sound (let h = c.loop-ring-test.false in omega arith) c.loop-ring.invariant.so_far
+returns-clause-same c = same_rings c.args.cell.now c.args.rings.now c.loop-ring.list c.loop-ring.ring-index (let h = c.loop-ring-test.false in omega arith) c.loop-ring.invariant.so_far
 
 pub returns-clause-sound : goal.returns-clause-sound
 returns-clause-sound c = sound_rings c.args.cell.now c.args.rings.now c.loop-ring.list c.loop-ring.ring-index (let h = c.loop-ring-test.false in omega arith) c.loop-ring.invariant.so_far
+
+pub returns-clause-spots : goal.returns-clause-spots
+returns-clause-spots c = spots_of_rings c.args.cell.now c.args.rings.now c.loop-ring.list c.loop-ring.ring-index (let h = c.loop-ring-test.false in omega arith) c.loop-ring.invariant.so_far
