@@ -9,8 +9,8 @@ use Rattle.std.proofs.lemmas.Cmp.{tied_itself}
 use Rattle.sg_cells.specs.Cells.{Cell}
 use Rattle.sg_cells.specs.declared.marks.Mark.{Mark}
 use Rattle.sg_versions.specs.declared.version.Version.{Version}
-use Rattle.sg_versions.specs.declared.version.End.{End}
-use Rattle.sg_versions.specs.declared.version.End.TheVariants.{Keep, Undo}
+use Rattle.sg_versions.specs.declared.version.WritesEnd.{WritesEnd}
+use Rattle.sg_versions.specs.declared.version.WritesEnd.TheVariants.{Keep, Undo}
 use Rattle.sg_versions.specs.Versions.{is_writer, visible, fresh, written, settled_version}
 use Rattle.sg_versions.proofs.Orders.{lookup_alike}
 use Rattle.sg_cellrows.specs.CellTable.{CellRow, CellKey, cell_cmp, cell_key_cmp, version_at}
@@ -53,7 +53,7 @@ in_bare : (b t : Bool) (v : Version Mark) → is_bare v ≡ t → in_part b (Som
 in_bare b t v is = ap (λ x. cond (is_eq (bool_cmp b x)) (Some v) None) is
 
 -- ---- the end of a session's writes
-ended_in : (e : End) (s : ℕ) (b : Bool) (c l : Option Mark) (w : Option ℕ) → is_writer s w ≡ true
+ended_in : (e : WritesEnd) (s : ℕ) (b : Bool) (c l : Option Mark) (w : Option ℕ) → is_writer s w ≡ true
     → in_part b (settled_version e s (Some (record { committed = c; writer = w; live = l }))) ≡ settled_version e s (in_part b (Some (record { committed = c; writer = w; live = l })))
 ended_in Keep s true None None w own = rw own refl
 ended_in Keep s false None None w own = rw own refl
@@ -72,16 +72,16 @@ ended_in Undo s false (Some x) None w own = rw own refl
 ended_in Undo s true (Some x) (Some y) w own = rw own refl
 ended_in Undo s false (Some x) (Some y) w own = rw own refl
 
-other_in : (e : End) (s : ℕ) (b : Bool) (v : Version Mark) (t : Bool) → is_writer s v.writer ≡ false → is_eq (bool_cmp b (is_bare v)) ≡ t → in_part b (settled_version e s (Some v)) ≡ settled_version e s (in_part b (Some v))
+other_in : (e : WritesEnd) (s : ℕ) (b : Bool) (v : Version Mark) (t : Bool) → is_writer s v.writer ≡ false → is_eq (bool_cmp b (is_bare v)) ≡ t → in_part b (settled_version e s (Some v)) ≡ settled_version e s (in_part b (Some v))
 other_in e s b v true other h = rw (other, h) (rw other refl)
 other_in e s b v false other h = rw (other, h) refl
 
-version_in : (e : End) (s : ℕ) (b : Bool) (v : Version Mark) (t : Bool) → is_writer s v.writer ≡ t → in_part b (settled_version e s (Some v)) ≡ settled_version e s (in_part b (Some v))
+version_in : (e : WritesEnd) (s : ℕ) (b : Bool) (v : Version Mark) (t : Bool) → is_writer s v.writer ≡ t → in_part b (settled_version e s (Some v)) ≡ settled_version e s (in_part b (Some v))
 version_in e s b v true own = ended_in e s b v.committed v.live v.writer own
 version_in e s b v false other = other_in e s b v _ other refl
 
 -- it ends what stands in a part
-pub settled_in : (e : End) (s : ℕ) (b : Bool) (o : Option (Version Mark)) → in_part b (settled_version e s o) ≡ settled_version e s (in_part b o)
+pub settled_in : (e : WritesEnd) (s : ℕ) (b : Bool) (o : Option (Version Mark)) → in_part b (settled_version e s o) ≡ settled_version e s (in_part b o)
 settled_in e s b None = refl
 settled_in e s b (Some v) = version_in e s b v _ refl
 
@@ -138,7 +138,7 @@ come k v o p new = new ∙ ap (λ t. cond t (Some v) o) (itself k)
 
 module _ (by_cell : List CellRow) (by_row : List RowCell) (new_cell : List CellRow) (new_row : List RowCell) (mirrored : IsMirrored by_cell by_row) where
   -- all of a session's writes have ended
-  pub mirrored_settled : (e : End) (s : ℕ) → ((k : CellKey) → version_at new_cell k ≡ settled_version e s (version_at by_cell k))
+  pub mirrored_settled : (e : WritesEnd) (s : ℕ) → ((k : CellKey) → version_at new_cell k ≡ settled_version e s (version_at by_cell k))
       → ((b : Bool) (k : RowKey) → part_at new_row b k ≡ settled_version e s (part_at by_row b k)) → IsMirrored new_cell new_row
   mirrored_settled e s cells rows b d q =
       ap (in_part b) (cells (d, q)) ∙ settled_in e s b (version_at by_cell (d, q)) ∙ ap (settled_version e s) (mirrored b d q) ∙ sym (rows b (q, d))

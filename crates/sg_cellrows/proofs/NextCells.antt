@@ -12,7 +12,7 @@ use Rattle.std.specs.BTreeMap.{is_at}
 use Rattle.std.proofs.lemmas.Cmp.{tied_itself, alike_right}
 use Rattle.sg_cells.specs.Cells.{Cell, id_of}
 use Rattle.sg_cells.specs.contracts.cell.CellOrd.TheImpl.Laws as cell_laws
-use Rattle.sg_cellrows.specs.CellTable.{CellKey, cell_cmp, cell_key_cmp, is_above}
+use Rattle.sg_cellrows.specs.CellTable.{CellKey, cell_cmp, cell_key_cmp, is_past}
 use Rattle.sg_cellrows.specs.Nexts.{RowKey, PartKey, RowCell, row_key_cmp, part_key_cmp, version_in, is_behind, IsNextCell}
 use Rattle.sg_cellrows.proofs.Following.{Respects, passes, value_is, none_before, none_there, fewer_past}
 
@@ -43,7 +43,7 @@ least_cell : (c : Cell) → is_le (cell_cmp [] c) ≡ true
 least_cell c = least_nat (id_of 4 c)
 
 -- within the row, behind is above
-pub behind_is : (r : ℕ) (above : Option Cell) (c : Cell) → is_behind r above (false, (r, c)) ≡ is_above above c
+pub behind_is : (r : ℕ) (above : Option Cell) (c : Cell) → is_behind r above (false, (r, c)) ≡ is_past above c
 behind_is r None c = let same = tied_itself nat_cmp_total r in rw same (least_cell c)
 behind_is r (Some a) c = let same = tied_itself nat_cmp_total r in rw same refl
 
@@ -85,7 +85,7 @@ pub lt_itself : (c : Cell) → is_lt (cell_cmp c c) ≡ false
 lt_itself c = ap is_lt (tied_itself cell_total c)
 
 -- behind a cell above is behind the one below
-row_trans : (r : ℕ) (above : Option Cell) (c : Cell) → is_above above c ≡ true → (k : RowKey) → is_behind r (Some c) (false, k) ≡ true → is_behind r above (false, k) ≡ true
+row_trans : (r : ℕ) (above : Option Cell) (c : Cell) → is_past above c ≡ true → (k : RowKey) → is_behind r (Some c) (false, k) ≡ true → is_behind r above (false, k) ≡ true
 row_trans r None c h k past = by_row (nat_cmp r k.0) refl past
   where
     by_row : (o : Ordering) → nat_cmp r k.0 ≡ o → is_lt (ordering_then o (cell_cmp c k.1)) ≡ true → is_le (ordering_then (nat_cmp r k.0) (cell_cmp [] k.1)) ≡ true
@@ -106,22 +106,22 @@ row_trans r (Some a) c h k past = by_row (nat_cmp r k.0) refl past
     by_row Equal e p = rw e (by_cells _ _ refl refl h p)
     by_row Greater e p = absurd (true≢false (sym p))
 
-above_trans : (r : ℕ) (above : Option Cell) (c : Cell) → is_above above c ≡ true → (k : PartKey) → is_behind r (Some c) k ≡ true → is_behind r above k ≡ true
+above_trans : (r : ℕ) (above : Option Cell) (c : Cell) → is_past above c ≡ true → (k : PartKey) → is_behind r (Some c) k ≡ true → is_behind r above k ≡ true
 above_trans r above c h k past = by_part k.0 k.1 above h past
   where
-    by_part : (b : Bool) (q : RowKey) (o : Option Cell) → is_above o c ≡ true → is_behind r (Some c) (b, q) ≡ true → is_behind r o (b, q) ≡ true
+    by_part : (b : Bool) (q : RowKey) (o : Option Cell) → is_past o c ≡ true → is_behind r (Some c) (b, q) ≡ true → is_behind r o (b, q) ≡ true
     by_part true q None g p = refl
     by_part true q (Some a) g p = refl
     by_part false q o g p = row_trans r o c g q p
 
 module _ (rows : List RowCell) (r : ℕ) (above : Option Cell) where
   -- no pair is behind
-  pub none_behind : None ≡ lookup_entry (is_behind r above) rows → (c : Cell) → is_above above c ≡ true → version_in rows (r, c) ≡ None
+  pub none_behind : None ≡ lookup_entry (is_behind r above) rows → (c : Cell) → is_past above c ≡ true → version_in rows (r, c) ≡ None
   none_behind found c h = none_there part_key_cmp part_key_total (is_behind r above) (behind_respects r above) (false, (r, c)) rows (behind_is r above c ∙ h) (sym found)
 
   module _ (rising : IsStrictlySortedBy part_key_cmp (keys_of rows)) (e : RowCell) (found : Some e ≡ lookup_entry (is_behind r above) rows) where
     -- the first pair behind is bare, or of another row
-    pub none_of_row : (e.0.0 ≡ false → e.0.1.0 ≡ r → ⊥) → (c : Cell) → is_above above c ≡ true → version_in rows (r, c) ≡ None
+    pub none_of_row : (e.0.0 ≡ false → e.0.1.0 ≡ r → ⊥) → (c : Cell) → is_past above c ≡ true → version_in rows (r, c) ≡ None
     none_of_row other c h =
         none_before part_key_cmp part_key_total (is_behind r above) (behind_respects r above) (false, (r, c)) rows e (behind_is r above c ∙ h)
         (other_key r above e.0.0 e.0.1 c (passes part_key_cmp part_key_total (is_behind r above) (behind_respects r above) rows e (sym found)) other) rising (sym found)
@@ -131,7 +131,7 @@ module _ (rows : List RowCell) (r : ℕ) (above : Option Cell) where
     next_cell_is marked own =
         let behind = passes part_key_cmp part_key_total (is_behind r above) (behind_respects r above) rows e (sym found) in
         let key_is : ◌≡◌ {A = PartKey} e.0 (false, (r, e.0.1.1)) = ap (λ (b : Bool). (b, e.0.1)) marked ∙ ap (λ (n : ℕ). (false, (n, e.0.1.1))) own in
-        let beyond : is_above above e.0.1.1 ≡ true = sym (behind_is r above e.0.1.1) ∙ ap (is_behind r above) (sym key_is) ∙ behind in
+        let beyond : is_past above e.0.1.1 ≡ true = sym (behind_is r above e.0.1.1) ∙ ap (is_behind r above) (sym key_is) ∙ behind in
         record {
           beyond = beyond;
           version_is = ap (λ (k : PartKey). lookup (is_at (part_key_cmp k)) rows) (sym key_is) ∙ value_is part_key_cmp part_key_total (is_behind r above) (behind_respects r above) rows e (sym found);

@@ -35,12 +35,12 @@ cell_key None = key.CellEnd
 cell_key (Some r) = key.Cell r.0.0 r.0.1
 
 -- above the given cell, if one is given
-abbrev pub is_above : Option Cell → Cell → Bool
-is_above None c = true
-is_above (Some a) c = is_lt (cell_cmp a c)
+abbrev pub is_past : Option Cell → Cell → Bool
+is_past None c = true
+is_past (Some a) c = is_lt (cell_cmp a c)
 
 -- of the cells above the given one, the least at which a mark is seen, and that mark
 pub record IsLeast (seen : Cell → Option Mark) (above : Option Cell) (found : Cell × Mark) : Type 0 where
-  pub beyond : is_above above found.0 ≡ true
+  pub beyond : is_past above found.0 ≡ true
   pub seen_is : seen found.0 ≡ Some found.1
-  pub least : (c : Cell) → is_above above c ≡ true → IsSome (seen c) → is_le (cell_cmp found.0 c) ≡ true
+  pub least : (c : Cell) → is_past above c ≡ true → IsSome (seen c) → is_le (cell_cmp found.0 c) ≡ true

@@ -9,7 +9,7 @@ use Rattle.sg_cells.specs.Cells.{Cell}
 use Rattle.sg_cells.specs.declared.marks.Mark.{Mark}
 use Rattle.sg_versions.specs.declared.version.Version.{Version}
 use Rattle.sg_versions.specs.Versions.{Versioned, visible}
-use Rattle.sg_cellrows.specs.CellTable.{CellKey, CellRow, cell_cmp, version_at, is_above}
+use Rattle.sg_cellrows.specs.CellTable.{CellKey, CellRow, cell_cmp, version_at, is_past}
 
 abbrev pub RowKey : Type 0
 RowKey = ℕ × Cell
@@ -69,7 +69,7 @@ is_behind r (Some c) k = is_lt (part_key_cmp (false, (r, c)) k)
 
 -- the row's next cell with a mark above the given one, and what it has
 pub record IsNextCell (rows : List RowCell) (r : ℕ) (above : Option Cell) (found : Cell × Version Mark) : Type 0 where
-  pub beyond : is_above above found.0 ≡ true
+  pub beyond : is_past above found.0 ≡ true
   pub version_is : version_in rows (r, found.0) ≡ Some found.1
-  pub none_between : (c : Cell) → is_above above c ≡ true → is_lt (cell_cmp c found.0) ≡ true → version_in rows (r, c) ≡ None
+  pub none_between : (c : Cell) → is_past above c ≡ true → is_lt (cell_cmp c found.0) ≡ true → version_in rows (r, c) ≡ None
   pub fewer : length (filter (λ x. is_behind r (Some found.0) x.0) rows) < length (filter (λ x. is_behind r above x.0) rows)

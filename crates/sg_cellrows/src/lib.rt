@@ -14,12 +14,12 @@ ghost use Rattle.sg_cells.specs.Cells as cells;
 ghost use Rattle.sg_pages.specs.Stored.{HasRisingKeys, first_from, first_past};
 ghost use Rattle.sg_versions.specs.Versions.{visible, fresh, kept_value, written, settled, change_at};
 ghost use Rattle.sg_versions.specs.Writers.{writer_of};
-ghost use Rattle.sg_cellrows.specs.CellTable.{cell_key_cmp, version_at, cell_key, is_above, IsLeast};
+ghost use Rattle.sg_cellrows.specs.CellTable.{cell_key_cmp, version_at, cell_key, is_past, IsLeast};
 ghost use Rattle.sg_cellrows.specs.Nexts.{part_key_cmp, part_at, is_bare, is_bare_at, version_in, seen_in, is_behind, IsNextCell};
 
 use sg_cells::{Cell, Key, Mark};
 use sg_modes::Session;
-use sg_versions::{End, Version, Versions};
+use sg_versions::{Version, Versions, WritesEnd};
 use std::alloc::{AllocError, Global};
 use std::marker::Model;
 
@@ -79,6 +79,14 @@ impl CellRows {
     {
         self.by_cell.reserve(more)?;
         self.by_row.reserve(more)
+    }
+
+    /// That the pairs rise, for a proof that rests on it. It does nothing.
+    #[inline(always)]
+    pub fn rising(&self)
+        ensures { HasRisingKeys cell_key_cmp self.now.rows }
+    {
+        self.by_cell.rising();
     }
 
     /// Whether the pair is there, with or without a mark.
@@ -177,7 +185,7 @@ impl CellRows {
     /// Commits all that the session wrote: its marks are the committed ones then, and the pairs at
     /// which it left none are gone. It takes no memory, and no room is lost.
     pub fn keep(&mut self, s: Session)
-        ensures rows { self.new.rows ≡ settled End.Keep s self.old.rows }
+        ensures rows { self.new.rows ≡ settled WritesEnd.Keep s self.old.rows }
         ensures spare { self.old.spare ≤ self.new.spare }
     {
         self.by_cell.keep(s);
@@ -187,7 +195,7 @@ impl CellRows {
     /// Drops all that the session wrote: the committed marks stay, and the pairs at which there is
     /// none are gone. It takes no memory, and no room is lost.
     pub fn undo(&mut self, s: Session)
-        ensures rows { self.new.rows ≡ settled End.Undo s self.old.rows }
+        ensures rows { self.new.rows ≡ settled WritesEnd.Undo s self.old.rows }
         ensures spare { self.old.spare ≤ self.new.spare }
     {
         self.by_cell.undo(s);
@@ -201,7 +209,7 @@ impl CellRows {
     /// the committed ones that it has overwritten, and those that another has written.
     pub fn cell_of(&self, s: Session, row: u32, above: Option<Cell>) -> Option<(Cell, Mark)>
         ensures least { IfSome result (IsLeast (λ c. visible s (version_at self.now.rows (c, row))) above) }
-        ensures none { IfNone result ((c : cells.Cell) → is_above above c ≡ true → visible s (version_at self.now.rows (c, row)) ≡ None) }
+        ensures none { IfNone result ((c : cells.Cell) → is_past above c ≡ true → visible s (version_at self.now.rows (c, row)) ≡ None) }
     {
         seen_cell(&self.by_row, s, row, above)
     }
@@ -247,7 +255,7 @@ fn seen_cell(
     above: Option<Cell>,
 ) -> Option<(Cell, Mark)>
     ensures least { IfSome result (IsLeast (seen_in rows.now.rows s row) above) }
-    ensures none { IfNone result ((c : cells.Cell) → is_above above c ≡ true → seen_in rows.now.rows s row c ≡ None) }
+    ensures none { IfNone result ((c : cells.Cell) → is_past above c ≡ true → seen_in rows.now.rows s row c ≡ None) }
 {
     let mut last = above;
     while let Some((cell, version)) = next_cell(rows, row, last) {
@@ -266,7 +274,7 @@ fn next_cell(
     above: Option<Cell>,
 ) -> Option<(Cell, &Version<Mark>)>
     ensures next { IfSome result (λ found. IsNextCell rows.now.rows row above (found.0, found.1.now)) }
-    ensures none { IfNone result ((c : cells.Cell) → is_above above c ≡ true → version_in rows.now.rows (row, c) ≡ None) }
+    ensures none { IfNone result ((c : cells.Cell) → is_past above c ≡ true → version_in rows.now.rows (row, c) ≡ None) }
 {
     match first_behind(rows, row, above) {
         None => None,

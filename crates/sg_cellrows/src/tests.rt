@@ -138,3 +138,18 @@ fn puts_committed(rt: HostRuntime) -> Result<(), Fail> {
     );
     Ok(())
 }
+
+// Many rows in one cell.
+#[test]
+fn many_pairs(rt: HostRuntime) -> Result<(), Fail> {
+    let s = session(1)?;
+    let cell = Cell::outside();
+    let mut rows = CellRows::new(rt.alloc());
+    for k in 0..300u32 {
+        put(&mut rows, s, cell, 299 - k)?;
+    }
+    assert_eq!(rt; rows.first_at((cell, 0)), Key::Cell(cell, 0));
+    assert_eq!(rt; rows.next_key((cell, 150)), Key::Cell(cell, 151));
+    assert_eq!(rt; rows.next_key((cell, 299)), Key::CellEnd);
+    Ok(())
+}

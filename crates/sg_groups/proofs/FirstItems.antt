@@ -6,7 +6,7 @@ use Rattle.std.specs.declared.cmp.Ordering.TheVariants.{Less, Equal, Greater}
 use Rattle.std.specs.Ordering.{is_eq, ordering_then}
 use Rattle.std.specs.Cmp.{IsTotalOrder}
 use Rattle.std.proofs.lemmas.Cmp.{tied_itself}
-use Rattle.sg_groups.specs.Groups.{pair_cmp, has_pair, items_of, is_above}
+use Rattle.sg_groups.specs.Groups.{pair_cmp, has_pair, items_of, is_item_above}
 
 is_eq-then : (r t : Ordering) → is_eq (ordering_then r t) ≡ (is_eq r && is_eq t)
 is_eq-then Less t = refl
@@ -40,28 +40,28 @@ module _ {A B : Type 0} (by_group : A → A → Ordering) (by_item : B → B →
     found_there [] e = absurd (cc)
     found_there (p ∷ ps) e = found_there_by p ps _ refl (found_there ps) e
 
-  none_by : (b : B) (p : A × B) (ps : List (A × B)) (t : Bool) → is_eq (by_group a p.0) ≡ t → (find (is_above by_item None) (items_of by_group a ps) ≡ None → has_pair by_group by_item ps a b ≡ false) → find (is_above by_item None) (items_of by_group a (p ∷ ps)) ≡ None → has_pair by_group by_item (p ∷ ps) a b ≡ false
+  none_by : (b : B) (p : A × B) (ps : List (A × B)) (t : Bool) → is_eq (by_group a p.0) ≡ t → (find (is_item_above by_item None) (items_of by_group a ps) ≡ None → has_pair by_group by_item ps a b ≡ false) → find (is_item_above by_item None) (items_of by_group a (p ∷ ps)) ≡ None → has_pair by_group by_item (p ∷ ps) a b ≡ false
   none_by b p ps true k later e = absurd (let f = rw k at e in cc)
   none_by b p ps false k later e =
       let other : is_eq (pair_cmp by_group by_item (a, b) p) ≡ false = is_eq-then (by_group a p.0) (by_item b p.1) ∙ rw k refl in
       rw other (later (rw k at e))
 
   -- a group without a first item has none
-  pub nothing_there : (b : B) (ps : List (A × B)) → find (is_above by_item None) (items_of by_group a ps) ≡ None → has_pair by_group by_item ps a b ≡ false
+  pub nothing_there : (b : B) (ps : List (A × B)) → find (is_item_above by_item None) (items_of by_group a ps) ≡ None → has_pair by_group by_item ps a b ≡ false
   nothing_there b [] e = refl
   nothing_there b (p ∷ ps) e = none_by b p ps _ refl (nothing_there b ps) e
 
   -- the first item, if there is one, is there
-  pub first_there : IsTotalOrder by_item → (ps : List (A × B)) (r : Option B) → r ≡ find (is_above by_item None) (items_of by_group a ps) → IfSome r (λ c. has_pair by_group by_item ps a c ≡ true)
+  pub first_there : IsTotalOrder by_item → (ps : List (A × B)) (r : Option B) → r ≡ find (is_item_above by_item None) (items_of by_group a ps) → IfSome r (λ c. has_pair by_group by_item ps a c ≡ true)
   first_there gb ps None e = tt
-  first_there gb ps (Some c) e = found_there gb (is_above by_item None) c ps (sym e)
+  first_there gb ps (Some c) e = found_there gb (is_item_above by_item None) c ps (sym e)
 
   -- and where there is none, the group has none
-  pub first_none : (ps : List (A × B)) (r : Option B) → r ≡ find (is_above by_item None) (items_of by_group a ps) → IfNone r ((b : B) → has_pair by_group by_item ps a b ≡ false)
+  pub first_none : (ps : List (A × B)) (r : Option B) → r ≡ find (is_item_above by_item None) (items_of by_group a ps) → IfNone r ((b : B) → has_pair by_group by_item ps a b ≡ false)
   first_none ps None e = λ b. nothing_there b ps (sym e)
   first_none ps (Some c) e = tt
 
 -- the first of the items above none is the first of them
-pub first_of_all : {B : Type 0} (by_item : B → B → Ordering) (items : List B) → find (is_above by_item None) items ≡ slice_get items 0
+pub first_of_all : {B : Type 0} (by_item : B → B → Ordering) (items : List B) → find (is_item_above by_item None) items ≡ slice_get items 0
 first_of_all by_item [] = refl
 first_of_all by_item (b ∷ items) = refl

@@ -16,7 +16,7 @@ use Rattle.std.proofs.lemmas.Map.{lookup-remove_entry}
 use Rattle.std.proofs.lemmas.Map.Made.{is_some-lookup}
 use Rattle.std.specs.Map.{keys_of, lookup, lookup_entry, remove_entry}
 use Rattle.std.specs.BTreeMap.{insert_entry, is_at}
-use Rattle.sg_groups.specs.Groups.{pairs_of, with_item, pair_cmp, entry_cmp, HasRisingEntries, HasRisingPairs, has_pair, items_of, is_above, item_in}
+use Rattle.sg_groups.specs.Groups.{pairs_of, with_item, pair_cmp, entry_cmp, HasRisingEntries, HasRisingPairs, has_pair, items_of, is_item_above, item_in}
 
 pub is_some-copied : {X : Type 0} (r : Option (Bor X)) → is_some (option_copied r) ≡ is_some r
 is_some-copied None = refl
@@ -162,7 +162,7 @@ module _ {A B : Type 0} (by_group : A → A → Ordering) (by_item : B → B →
     sought es = item_found by_group a (lookup_entry (λ k. is_lt (entry_cmp by_group by_item (a, o) k)) es)
 
     abbrev wanted : List (A × B) → Option B
-    wanted ps = find (is_above by_item o) (items_of by_group a ps)
+    wanted ps = find (is_item_above by_item o) (items_of by_group a ps)
 
     next_less : {U : Type 0} (e : (A × Option B) × U) (es : List ((A × Option B) × U)) → by_group a e.0.0 ≡ Less → (x : A) (c : Option B) → by_group a x ≡ Less → items_of by_group a (pairs_of es) ≡ [] → sought (e ∷ es) ≡ wanted (with_item x c (pairs_of es))
     next_less e es h x None below none = simp (h, none) refl
@@ -181,7 +181,7 @@ module _ {A B : Type 0} (by_group : A → A → Ordering) (by_item : B → B →
     next_equal x None u es h rest = rw (h, no_mark o) rest
     next_equal x (Some b) u es h rest = rw h (by_above _ refl)
       where
-        by_above : (t : Bool) → is_above by_item o b ≡ t → item_found by_group a (cond (is_above by_item o b) (Some ((x, Some b), u)) (lookup_entry (λ k. is_lt (entry_cmp by_group by_item (a, o) k)) es)) ≡ cond (is_above by_item o b) (Some b) (wanted (pairs_of es))
+        by_above : (t : Bool) → is_item_above by_item o b ≡ t → item_found by_group a (cond (is_item_above by_item o b) (Some ((x, Some b), u)) (lookup_entry (λ k. is_lt (entry_cmp by_group by_item (a, o) k)) es)) ≡ cond (is_item_above by_item o b) (Some b) (wanted (pairs_of es))
         by_above true e = rw (e, h) refl
         by_above false e = rw e rest
 

@@ -55,12 +55,12 @@ items_of by_group a [] = []
 items_of by_group a (p ∷ ps) = cond (is_eq (by_group a p.0)) (p.1 ∷ items_of by_group a ps) (items_of by_group a ps)
 
 -- the item is above the other, if there is one
-abbrev pub is_above : {B : Type 0} → (B → B → Ordering) → Option B → B → Bool
-is_above by_item other b = is_lt (option_cmp by_item other (Some b))
+abbrev pub is_item_above : {B : Type 0} → (B → B → Ordering) → Option B → B → Bool
+is_item_above by_item other b = is_lt (option_cmp by_item other (Some b))
 
 -- the items above one, and all where there is none
 abbrev pub items_above : {B : Type 0} → (B → B → Ordering) → Option B → List B → List B
-items_above by_item other items = filter (is_above by_item other) items
+items_above by_item other items = filter (is_item_above by_item other) items
 
 -- the entry's item, if it is of this group
 abbrev pub item_in : {A B : Type 0} → (A → A → Ordering) → A → A × Option B → Option B

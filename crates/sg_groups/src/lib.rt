@@ -5,7 +5,7 @@
 
 ghost use Rattle.std.specs.Prelude.{◌≡◌, ◌+◌, ◌≤◌, [], ◌||◌, ◌&&◌, not, true, false, length, find, slice_get, IfSome, IfNone, OnOk, IsOk, IsTrue};
 ghost use Rattle.std.specs.Ordering.{is_eq};
-ghost use Rattle.sg_groups.specs.Groups.{pair_cmp, HasRisingPairs, has_pair, items_of, is_above, item_in};
+ghost use Rattle.sg_groups.specs.Groups.{pair_cmp, HasRisingPairs, has_pair, items_of, is_item_above, item_in};
 
 use sg_pages::Pages;
 use std::alloc::{AllocError, Global};
@@ -84,7 +84,7 @@ impl<A: Ord + Copy, B: Ord + Copy> Groups<A, B> {
 
     /// The first item of the group that is above this one, or of all where there is none.
     pub fn next(&self, group: &A, other: Option<B>) -> Option<B>
-        ensures first { result ≡ find (is_above B.cmp other) (items_of A.cmp group.now self.now.pairs) }
+        ensures first { result ≡ find (is_item_above B.cmp other) (items_of A.cmp group.now self.now.pairs) }
         ensures rising { HasRisingPairs A.cmp B.cmp self.now.pairs }
     {
         match self.entries.after(&(*group, other)) {

@@ -9,7 +9,7 @@ use Rattle.std.specs.Cmp.{IsTotalOrder}
 use Rattle.std.specs.List.{AllByRecursion}
 use Rattle.std.specs.List.Sorted.{IsStrictlySortedBy}
 use Rattle.std.proofs.lemmas.Cmp.{tied_itself}
-use Rattle.sg_groups.specs.Groups.{pair_cmp, HasRisingPairs, has_pair, items_of, is_above, items_above}
+use Rattle.sg_groups.specs.Groups.{pair_cmp, HasRisingPairs, has_pair, items_of, is_item_above, items_above}
 
 -- ---- tests
 pub is_eq-then : (r t : Ordering) → is_eq (ordering_then r t) ≡ (is_eq r && is_eq t)
@@ -61,11 +61,11 @@ module _ {B : Type 0} (by_item : B → B → Ordering) where
   none_passes test (b ∷ items) e = none_passes_by test b items _ refl (none_passes test items) e
 
   -- no items are left where none is found
-  pub nothing_found : (items : List B) → find (is_above by_item None) items ≡ None → items ≡ []
-  nothing_found items e = sym (items_above-None items) ∙ none_passes (is_above by_item None) items e
+  pub nothing_found : (items : List B) → find (is_item_above by_item None) items ≡ None → items ≡ []
+  nothing_found items e = sym (items_above-None items) ∙ none_passes (is_item_above by_item None) items e
 
   module _ (total : IsTotalOrder by_item) where
-    above_more : (o : Option B) (c d : B) → is_above by_item o c ≡ true → by_item c d ≡ Less → is_above by_item o d ≡ true
+    above_more : (o : Option B) (c d : B) → is_item_above by_item o c ≡ true → by_item c d ≡ Less → is_item_above by_item o d ≡ true
     above_more None c d h below = refl
     above_more (Some b) c d h below = by_order (by_item b c) refl
       where
@@ -74,7 +74,7 @@ module _ {B : Type 0} (by_item : B → B → Ordering) where
         by_order Equal e = absurd (true≢false (sym h ∙ ap is_lt e))
         by_order Greater e = absurd (true≢false (sym h ∙ ap is_lt e))
 
-    all_above : (o : Option B) (c : B) (items : List B) → is_above by_item o c ≡ true → AllByRecursion (λ d. by_item c d ≡ Less) items → items_above by_item o items ≡ items
+    all_above : (o : Option B) (c : B) (items : List B) → is_item_above by_item o c ≡ true → AllByRecursion (λ d. by_item c d ≡ Less) items → items_above by_item o items ≡ items
     all_above o c [] h all = refl
     all_above o c (d ∷ items) h all = let here = above_more o c d h all.0 in rw here (ap (λ t. d ∷ t) (all_above o c items h all.1))
 
@@ -82,7 +82,7 @@ module _ {B : Type 0} (by_item : B → B → Ordering) where
     all_past c [] all = refl
     all_past c (d ∷ items) all = let here = all.0 in rw here (ap (λ t. d ∷ t) (all_past c items all.1))
 
-    not_below : (b c : B) → by_item b c ≡ Less → is_above by_item (Some c) b ≡ false
+    not_below : (b c : B) → by_item b c ≡ Less → is_item_above by_item (Some c) b ≡ false
     not_below b c e = by_order (by_item c b) refl
       where
         by_order : (r : Ordering) → by_item c b ≡ r → is_lt (by_item c b) ≡ false
@@ -90,23 +90,23 @@ module _ {B : Type 0} (by_item : B → B → Ordering) where
         by_order Equal f = ap is_lt f
         by_order Greater f = ap is_lt f
 
-    first_here : (o : Option B) (b c : B) (items : List B) → AllByRecursion (λ d. by_item b d ≡ Less) items → b ≡ c → is_above by_item o b ≡ true → b ∷ items_above by_item o items ≡ c ∷ items_above by_item (Some c) (b ∷ items)
+    first_here : (o : Option B) (b c : B) (items : List B) → AllByRecursion (λ d. by_item b d ≡ Less) items → b ≡ c → is_item_above by_item o b ≡ true → b ∷ items_above by_item o items ≡ c ∷ items_above by_item (Some c) (b ∷ items)
     first_here o b c items rising same h =
         let itself = ap is_lt (tied_itself total b) in
         subst (λ (x : B). b ∷ items_above by_item o items ≡ x ∷ items_above by_item (Some x) (b ∷ items)) same
         (rw itself (ap (λ t. b ∷ t) (all_above o b items h rising ∙ sym (all_past b items rising))))
 
-    found_first_by : (o : Option B) (b : B) (items : List B) (c : B) (t : Bool) → is_above by_item o b ≡ t → AllByRecursion (λ d. by_item b d ≡ Less) items
-        → (find (is_above by_item o) items ≡ Some c → items_above by_item o items ≡ c ∷ items_above by_item (Some c) items)
-        → find (is_above by_item o) (b ∷ items) ≡ Some c → items_above by_item o (b ∷ items) ≡ c ∷ items_above by_item (Some c) (b ∷ items)
+    found_first_by : (o : Option B) (b : B) (items : List B) (c : B) (t : Bool) → is_item_above by_item o b ≡ t → AllByRecursion (λ d. by_item b d ≡ Less) items
+        → (find (is_item_above by_item o) items ≡ Some c → items_above by_item o items ≡ c ∷ items_above by_item (Some c) items)
+        → find (is_item_above by_item o) (b ∷ items) ≡ Some c → items_above by_item o (b ∷ items) ≡ c ∷ items_above by_item (Some c) (b ∷ items)
     found_first_by o b items c true h rising later e = let f = rw h at e in let same : b ≡ c = cc in rw h (first_here o b c items rising same h)
     found_first_by o b items c false h rising later e =
         let f = rw h at e in
-        let not_above = not_below b c (found_holds (λ d. by_item b d ≡ Less) (is_above by_item o) items c rising f) in
+        let not_above = not_below b c (found_holds (λ d. by_item b d ≡ Less) (is_item_above by_item o) items c rising f) in
         rw (h, not_above) (later f)
 
     -- the first item that is found, and those above it
-    pub found_first : (o : Option B) (items : List B) (c : B) → IsStrictlySortedBy by_item items → find (is_above by_item o) items ≡ Some c → items_above by_item o items ≡ c ∷ items_above by_item (Some c) items
+    pub found_first : (o : Option B) (items : List B) (c : B) → IsStrictlySortedBy by_item items → find (is_item_above by_item o) items ≡ Some c → items_above by_item o items ≡ c ∷ items_above by_item (Some c) items
     unfolding IsStrictlySortedBy
     found_first o [] c rising e = absurd (cc)
     found_first o (b ∷ items) c rising e = found_first_by o b items c _ refl rising.0 (found_first o items c rising.1) e

@@ -15,7 +15,7 @@ use Rattle.sg_modes.specs.contracts.modes.ModeOrd.TheImpl as modes
 use Rattle.sg_modes.specs.contracts.modes.ModeOrd.TheImpl.Laws as mode_laws
 use Rattle.sg_modes.specs.Modes.{is_compatible}
 use Rattle.sg_modes.specs.Sessions.{has_session, with_session}
-use Rattle.sg_modes.specs.SessionLaws.{has_session-with}
+use Rattle.sg_modes.proofs.SessionLaws.{has_session-with}
 use Rattle.sg_locks.specs.Grants.{Grant, mode_place, is_same_mode, is_same_grant, has_grant, blocks, grant_cmp, HasRisingGrants, AddsGrant, RemovesSession}
 use Rattle.sg_groups.specs.Groups.{pair_cmp, HasRisingPairs, has_pair, items_of}
 use Rattle.sg_locks.specs.Mirrors.{grant_on, grants_on, grant_of, grants_of, Mirrors, IsLockTable}

@@ -90,3 +90,18 @@ fn pairs_as_keys(rt: HostRuntime) -> Result<(), Fail> {
     assert!(rt; blockers.is_empty());
     Ok(())
 }
+
+// Many keys of one session, and then of none.
+#[test]
+fn many_grants(rt: HostRuntime) -> Result<(), Fail> {
+    let s = session(7)?;
+    let mut locks: Locks<u32> = Locks::new(rt.alloc());
+    for key in 0..300u32 {
+        assert!(rt; try_grant(&mut locks, s, key, Mode::X)?);
+    }
+    assert!(rt; locks.holds(s, &299, Mode::X));
+    locks.release_all(s);
+    assert!(rt; !locks.holds(s, &0, Mode::X));
+    assert!(rt; !locks.holds(s, &299, Mode::X));
+    Ok(())
+}

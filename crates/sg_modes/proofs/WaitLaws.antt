@@ -2,43 +2,43 @@
 use Rattle.std.specs.Prelude.{◌≡◌, ◌≢◌, ℕ, ◌<◌, ◌≤◌, Bool, true, false, not, ◌||◌, ◌⊎◌, cond, List, [], ◌∷◌, eqb, ltb, refl}
 use Rattle.std.proofs.Common.{sym, ap, ◌∙◌, subst, inl, inr, arith, eqb-true, eq-eqb}
 use Rattle.sg_modes.specs.Sessions.{AreSessions, has_session}
-use Rattle.sg_modes.specs.BoolLaws.{true_or_false, clash, neither, ne-eqb, eqb-false, ltb-lt, ltb-le, by_test, or_left}
-use Rattle.sg_modes.specs.SessionLaws.{same_sessions}
-use Rattle.sg_modes.specs.Waits.{Wait, is_waiting, blockers_of, RisingWaits, with_wait, ends_with, waits_after, IsSteps, IsNext, AreNext, NoCycle, IsCycle, IsCycleSet}
+use Rattle.sg_modes.proofs.BoolLaws.{true_or_false, clash, neither, ne-eqb, eqb-false, ltb-lt, ltb-le, by_test, or_left}
+use Rattle.sg_modes.proofs.SessionLaws.{same_sessions}
+use Rattle.sg_modes.specs.Waits.{Wait, is_waiting, blockers_of, RisingWaits, with_wait, ends_with, waits_after, IsSteps, IsNextMember, AreNextMembers, NoCycle, IsCycle, IsCycleSet}
 
 -- ---- the cycle is one
 
-IsNext-steps : (f : ℕ → List ℕ) (s x y z : ℕ) (a : IsNext f s x y) (b : IsNext f s x z) → a.steps ≡ b.steps
-IsNext-steps f s x y z a b = let l : a.steps ≤ b.steps = a.fewest z b.steps b.waits b.leads in let m : b.steps ≤ a.steps = b.fewest y a.steps a.waits a.leads in omega arith
+IsNextMember-steps : (f : ℕ → List ℕ) (s x y z : ℕ) (a : IsNextMember f s x y) (b : IsNextMember f s x z) → a.steps ≡ b.steps
+IsNextMember-steps f s x y z a b = let l : a.steps ≤ b.steps = a.fewest z b.steps b.waits b.leads in let m : b.steps ≤ a.steps = b.fewest y a.steps a.waits a.leads in omega arith
 
 -- one session comes next
-pub IsNext-unique : (f : ℕ → List ℕ) (s x y z : ℕ) → IsNext f s x y → IsNext f s x z → y ≡ z
-IsNext-unique f s x y z a b =
-    let q : a.steps ≡ b.steps = IsNext-steps f s x y z a b in
+pub IsNextMember-unique : (f : ℕ → List ℕ) (s x y z : ℕ) → IsNextMember f s x y → IsNextMember f s x z → y ≡ z
+IsNextMember-unique f s x y z a b =
+    let q : a.steps ≡ b.steps = IsNextMember-steps f s x y z a b in
     let l : y ≤ z = a.least z b.waits (subst (λ (n : ℕ). IsSteps f z s n) (sym q) b.leads) in
     let m : z ≤ y = b.least y a.waits (subst (λ (n : ℕ). IsSteps f y s n) q a.leads) in
     omega arith
 
-AreNext-unique : (f : ℕ → List ℕ) (s x : ℕ) (ys zs : List ℕ) → AreNext f s x ys → AreNext f s x zs → ys ≡ zs
-AreNext-unique f s x [] [] a b = refl
-AreNext-unique f s x [] (z ∷ zs) a b = absurd (b.1 (IsNext-unique f s x z s b.0 a))
-AreNext-unique f s x (y ∷ ys) [] a b = absurd (a.1 (IsNext-unique f s x y s a.0 b))
-AreNext-unique f s x (y ∷ ys) (z ∷ zs) a b = let q : y ≡ z = IsNext-unique f s x y z a.0 b.0 in
-    joined q (AreNext-unique f s y ys zs a.2 (subst (λ (v : ℕ). AreNext f s v zs) (sym q) b.2))
+AreNextMembers-unique : (f : ℕ → List ℕ) (s x : ℕ) (ys zs : List ℕ) → AreNextMembers f s x ys → AreNextMembers f s x zs → ys ≡ zs
+AreNextMembers-unique f s x [] [] a b = refl
+AreNextMembers-unique f s x [] (z ∷ zs) a b = absurd (b.1 (IsNextMember-unique f s x z s b.0 a))
+AreNextMembers-unique f s x (y ∷ ys) [] a b = absurd (a.1 (IsNextMember-unique f s x y s a.0 b))
+AreNextMembers-unique f s x (y ∷ ys) (z ∷ zs) a b = let q : y ≡ z = IsNextMember-unique f s x y z a.0 b.0 in
+    joined q (AreNextMembers-unique f s y ys zs a.2 (subst (λ (v : ℕ). AreNextMembers f s v zs) (sym q) b.2))
   where
     joined : y ≡ z → ys ≡ zs → (y ∷ ys) ≡ (z ∷ zs)
     joined q r = cc
 
-AreNext-NoCycle : (f : ℕ → List ℕ) (s : ℕ) (ys : List ℕ) → AreNext f s s ys → NoCycle f s → ⊥
-AreNext-NoCycle f s [] a n = n s a.steps a.waits a.leads.chain
-AreNext-NoCycle f s (y ∷ ys) a n = n y a.0.steps a.0.waits a.0.leads.chain
+AreNextMembers-NoCycle : (f : ℕ → List ℕ) (s : ℕ) (ys : List ℕ) → AreNextMembers f s s ys → NoCycle f s → ⊥
+AreNextMembers-NoCycle f s [] a n = n s a.steps a.waits a.leads.chain
+AreNextMembers-NoCycle f s (y ∷ ys) a n = n y a.0.steps a.0.waits a.0.leads.chain
 
 -- a session has one cycle
 pub IsCycle-unique : (f : ℕ → List ℕ) (s : ℕ) (c d : List ℕ) → IsCycle f s c → IsCycle f s d → c ≡ d
 IsCycle-unique f s [] [] a b = refl
-IsCycle-unique f s [] (y ∷ ys) a b = absurd (AreNext-NoCycle f s ys b.1 a)
-IsCycle-unique f s (x ∷ xs) [] a b = absurd (AreNext-NoCycle f s xs a.1 b)
-IsCycle-unique f s (x ∷ xs) (y ∷ ys) a b = joined (a.0 ∙ sym b.0) (AreNext-unique f s s xs ys a.1 b.1)
+IsCycle-unique f s [] (y ∷ ys) a b = absurd (AreNextMembers-NoCycle f s ys b.1 a)
+IsCycle-unique f s (x ∷ xs) [] a b = absurd (AreNextMembers-NoCycle f s xs a.1 b)
+IsCycle-unique f s (x ∷ xs) (y ∷ ys) a b = joined (a.0 ∙ sym b.0) (AreNextMembers-unique f s s xs ys a.1 b.1)
   where
     joined : x ≡ y → xs ≡ ys → (x ∷ xs) ≡ (y ∷ ys)
     joined q r = cc
@@ -64,7 +64,7 @@ IsCycleSet-none f s set a n = go a.order a.cycle a.members
 
     go : (order : List ℕ) → IsCycle f s order → ((n : ℕ) → has_session set n ≡ has_session order n) → set ≡ []
     go [] c e = no_member set e
-    go (x ∷ xs) c e = absurd (AreNext-NoCycle f s xs c.1 n)
+    go (x ∷ xs) c e = absurd (AreNextMembers-NoCycle f s xs c.1 n)
 
 -- where there is a cycle, the session itself is a member
 pub IsCycleSet-itself : (f : ℕ → List ℕ) (s : ℕ) (set : List ℕ) → IsCycleSet f s set → set ≢ [] → has_session set s ≡ true

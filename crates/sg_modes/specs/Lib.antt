@@ -1,9 +1,6 @@
-pub mod BoolLaws
 pub mod Modes
 pub mod Priorities
-pub mod SessionLaws
 pub mod Sessions
 pub mod Victims
 pub mod Waits
-pub mod WordLaws
 pub mod Words

@@ -52,7 +52,7 @@ pub record IsSteps (f : ℕ → List ℕ) (x s n : ℕ) : Type 0 where
   pub fewest : (m : ℕ) → Chain f m x s → n ≤ m
 
 -- after the member x in the cycle of s comes y: of the sessions that x waits for and that lead to s, one of the fewest steps to s, and of these the one of the least number
-pub record IsNext (f : ℕ → List ℕ) (s x y : ℕ) : Type 0 where
+pub record IsNextMember (f : ℕ → List ℕ) (s x y : ℕ) : Type 0 where
   pub steps : ℕ
   pub waits : has_session (f x) y ≡ true
   pub leads : IsSteps f y s steps
@@ -60,9 +60,9 @@ pub record IsNext (f : ℕ → List ℕ) (s x y : ℕ) : Type 0 where
   pub least : (z : ℕ) → has_session (f x) z ≡ true → IsSteps f z s steps → y ≤ z
 
 -- the members that come after x, up to where s would come again
-abbrev pub AreNext : (ℕ → List ℕ) → ℕ → ℕ → List ℕ → Type 0
-AreNext f s x [] = IsNext f s x s
-AreNext f s x (y ∷ ys) = IsNext f s x y × (y ≢ s) × AreNext f s y ys
+abbrev pub AreNextMembers : (ℕ → List ℕ) → ℕ → ℕ → List ℕ → Type 0
+AreNextMembers f s x [] = IsNextMember f s x s
+AreNextMembers f s x (y ∷ ys) = IsNextMember f s x y × (y ≢ s) × AreNextMembers f s y ys
 
 -- no session that s waits for leads to s
 abbrev pub NoCycle : (ℕ → List ℕ) → ℕ → Type 0
@@ -71,7 +71,7 @@ NoCycle f s = (y n : ℕ) → has_session (f s) y ≡ true → Chain f n y s →
 -- the cycle of s in its order, from s on; it is empty where there is none
 abbrev pub IsCycle : (ℕ → List ℕ) → ℕ → List ℕ → Type 0
 IsCycle f s [] = NoCycle f s
-IsCycle f s (x ∷ xs) = (x ≡ s) × AreNext f s s xs
+IsCycle f s (x ∷ xs) = (x ≡ s) × AreNextMembers f s s xs
 
 -- the set of the members of the cycle of s
 pub record IsCycleSet (f : ℕ → List ℕ) (s : ℕ) (set : List ℕ) : Type 0 where

@@ -35,6 +35,14 @@ impl Session {
         }
     }
 
+    /// That the number is from 1 to 64, for a proof that rests on it. It does nothing.
+    #[inline(always)]
+    pub fn in_range(&self)
+        ensures { IsSession self.now }
+    {
+        let _number = &self.number;
+    }
+
     /// The number, from 1 to 64.
     pub fn number(&self) -> u8
         ensures number { result ≡ self.now }

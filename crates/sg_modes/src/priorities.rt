@@ -33,6 +33,14 @@ impl Priorities {
         }
     }
 
+    /// That all of them are from -10 to 10, for a proof that rests on it. It does nothing.
+    #[inline(always)]
+    pub fn in_range(&self)
+        ensures { ArePriorities self.now }
+    {
+        let _by_session = &self.by_session;
+    }
+
     /// The priority of the session.
     pub fn of(&self, s: Session) -> i8
         ensures priority { result ≡ priority_of self.now s }

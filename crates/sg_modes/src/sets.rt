@@ -12,19 +12,18 @@ pub struct Sessions {
 }
 
 impl Model for Sessions {
-    ghost use Rattle.std.specs.Prelude.{ℕ, List, ◌<◌, ◌^◌};
+    ghost use Rattle.std.specs.Prelude.{◌≡◌, ℕ, List, ◌<◌, ◌^◌};
     ghost use Rattle.sg_modes.specs.Words.{members, word_of};
-    ghost use Rattle.sg_modes.specs.WordLaws.{word_of-members};
 
     ghost Value = { List ℕ };
 
     ghost view = { λ s. members s.bits };
 
-    ghost invariant = { λ s. s.bits < 2 ^ 64 };
+    ghost invariant = { λ s. (s.bits < 2 ^ 64) × (word_of (members s.bits) ≡ s.bits) };
 
     ghost inverse = { λ ns. record { bits = word_of ns } };
 
-    ghost inverse_ok = { λ s h i. record { bits = word_of-members s.bits h i } };
+    ghost inverse_ok = { λ s h i. record { bits = h.1 i } };
 }
 
 impl Sessions {
@@ -41,6 +40,14 @@ impl Sessions {
         ensures sessions { AreSessions result }
     {
         Sessions { bits: u64::MAX }
+    }
+
+    /// That all members are sessions, for a proof that rests on it. It does nothing.
+    #[inline(always)]
+    pub fn all_sessions(&self)
+        ensures { AreSessions self.now }
+    {
+        let _bits = &self.bits;
     }
 
     /// Whether the session is in the set.

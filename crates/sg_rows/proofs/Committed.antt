@@ -10,7 +10,7 @@ use Rattle.sg_shape.specs.declared.shapes.Shape.{Shape}
 use Rattle.sg_shape.specs.Sound.{IsSound}
 use Rattle.sg_plain.specs.Keys.{RisesFrom, IsRising}
 use Rattle.sg_plain.specs.Rows as plain
-use Rattle.sg_rows.specs.Table.{TableRow, IsSoundRow, AreSoundRows, IsNext, committed_rows, rows_past}
+use Rattle.sg_rows.specs.Table.{TableRow, IsSoundRow, AreSoundRows, IsNextRow, committed_rows, rows_past}
 use Rattle.sg_rows.proofs.SoundRows.{sound_past}
 use Rattle.sg_rows.proofs.PastRows.{next_is}
 
@@ -78,7 +78,7 @@ module _ (before : List (ℕ × Shape)) (last : Option ℕ) (rows : List TableRo
     behind : rows_past last rows ≡ r ∷ rows_past (Some r.0) rows
     behind = next_is last rows r rising (sym first)
 
-    next_by : (o : Option Shape) → r.1.committed ≡ o → IfSome r.1.committed IsSound → before ++ committed_rows (r ∷ rows_past (Some r.0) rows) ≡ committed_rows rows → IfSome o (IsNext before r.0)
+    next_by : (o : Option Shape) → r.1.committed ≡ o → IfSome r.1.committed IsSound → before ++ committed_rows (r ∷ rows_past (Some r.0) rows) ≡ committed_rows rows → IfSome o (IsNextRow before r.0)
     next_by None e sound j = tt
     next_by (Some shape) e sound j =
         let all = rw e at j in
@@ -92,7 +92,7 @@ module _ (before : List (ℕ × Shape)) (last : Option ℕ) (rows : List TableRo
     head_sound (x ∷ rest) e all = let same : x ≡ r = cc in subst IsSoundRow same all.0
 
     -- its committed shape may come next
-    pub next_committed : AreSoundRows rows → IfSome r.1.committed (IsNext before r.0)
+    pub next_committed : AreSoundRows rows → IfSome r.1.committed (IsNextRow before r.0)
     next_committed sound =
         next_by r.1.committed refl ((head_sound (rows_past last rows) first (sound_past last rows sound)).committed) (ap (λ (t : List TableRow). before ++ committed_rows t) (sym behind) ∙ joined)
 

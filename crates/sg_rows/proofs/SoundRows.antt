@@ -9,8 +9,8 @@ use Rattle.std.specs.BTreeMap.{insert_entry}
 use Rattle.sg_shape.specs.declared.shapes.Shape.{Shape}
 use Rattle.sg_shape.specs.Sound.{IsSound}
 use Rattle.sg_versions.specs.declared.version.Version.{Version}
-use Rattle.sg_versions.specs.declared.version.End.{End}
-use Rattle.sg_versions.specs.declared.version.End.TheVariants.{Keep, Undo}
+use Rattle.sg_versions.specs.declared.version.WritesEnd.{WritesEnd}
+use Rattle.sg_versions.specs.declared.version.WritesEnd.TheVariants.{Keep, Undo}
 use Rattle.sg_versions.specs.Versions.{is_writer, fresh, written, ended, is_emptied, ended_of, settled, change_by, change_at}
 use Rattle.sg_rows.specs.Table.{TableRow, IsSoundRow, AreSoundRows, loaded_row, rows_past}
 
@@ -52,19 +52,19 @@ pub sound_written : (test : ℕ → Bool) (s : ℕ) (shape : Option Shape) (rows
 sound_written test s shape rows here all = written_by test s shape rows _ refl here all
 
 -- after the end of a session's writes
-ended_row : (e : End) (r : TableRow) → IsSoundRow r → IsSoundRow (r.0, ended e r.1)
+ended_row : (e : WritesEnd) (r : TableRow) → IsSoundRow r → IsSoundRow (r.0, ended e r.1)
 ended_row Keep r sound = record { committed = sound.live; live = tt }
 ended_row Undo r sound = record { committed = sound.committed; live = tt }
 
-ended_by : (e : End) (s : ℕ) (r : TableRow) (b : Bool) → is_writer s r.1.writer ≡ b → IsSoundRow r → IsSoundRow (r.0, ended_of e s r.1)
+ended_by : (e : WritesEnd) (s : ℕ) (r : TableRow) (b : Bool) → is_writer s r.1.writer ≡ b → IsSoundRow r → IsSoundRow (r.0, ended_of e s r.1)
 ended_by e s r true h sound = rw h (ended_row e r sound)
 ended_by e s r false h sound = rw h (record { committed = sound.committed; live = sound.live })
 
-settled_by : (e : End) (s : ℕ) (r : TableRow) (rows : List TableRow) (b : Bool) → is_emptied e s r.1 ≡ b → IsSoundRow r → AreSoundRows (settled e s rows) → AreSoundRows (settled e s (r ∷ rows))
+settled_by : (e : WritesEnd) (s : ℕ) (r : TableRow) (rows : List TableRow) (b : Bool) → is_emptied e s r.1 ≡ b → IsSoundRow r → AreSoundRows (settled e s rows) → AreSoundRows (settled e s (r ∷ rows))
 settled_by e s r rows true h sound rest = rw h rest
 settled_by e s r rows false h sound rest = rw h (ended_by e s r _ refl sound, rest)
 
-pub sound_settled : (e : End) (s : ℕ) (rows : List TableRow) → AreSoundRows rows → AreSoundRows (settled e s rows)
+pub sound_settled : (e : WritesEnd) (s : ℕ) (rows : List TableRow) → AreSoundRows rows → AreSoundRows (settled e s rows)
 sound_settled e s [] all = tt
 sound_settled e s (r ∷ rows) all = settled_by e s r rows _ refl all.0 (sound_settled e s rows all.1)
 

@@ -53,6 +53,6 @@ rows_past None rows = rows
 rows_past (Some k) rows = filter (λ r. is_lt (nat_cmp k r.0)) rows
 
 -- a sound shape whose key is above those of the rows before it
-pub record IsNext (rows : List (ℕ × Shape)) (k : ℕ) (shape : Shape) : Type 0 where
+pub record IsNextRow (rows : List (ℕ × Shape)) (k : ℕ) (shape : Shape) : Type 0 where
   pub above : IsRising (keys_of rows ++ k ∷ [])
   pub sound : IsSound shape

@@ -15,13 +15,13 @@ ghost use Rattle.sg_plain.specs.Rows.{AreRows};
 ghost use Rattle.sg_pages.specs.Stored.{HasRisingKeys, first_past};
 ghost use Rattle.sg_versions.specs.Versions.{visible, fresh, written, settled, change_at};
 ghost use Rattle.sg_versions.specs.Writers.{writer_of};
-ghost use Rattle.sg_rows.specs.Table.{IsSoundRow, AreSoundRows, version_at, row_key, loaded_row, committed_rows, rows_past, IsNext};
+ghost use Rattle.sg_rows.specs.Table.{IsSoundRow, AreSoundRows, version_at, row_key, loaded_row, committed_rows, rows_past, IsNextRow};
 
 use sg_cells::Key;
 use sg_modes::Session;
 use sg_plain::PlainRows;
 use sg_shape::Shape;
-use sg_versions::{End, Version, Versions};
+use sg_versions::{Version, Versions, WritesEnd};
 use std::alloc::{AllocError, Global};
 use std::marker::Model;
 
@@ -83,6 +83,15 @@ impl Rows {
         ensures there { more ≤ self.old.spare → IsOk result }
     {
         self.versions.reserve(more)
+    }
+
+    /// That the keys rise and all shapes are sound, for a proof that rests on it. It does nothing.
+    #[inline(always)]
+    pub fn in_order(&self)
+        ensures sound { AreSoundRows self.now.rows }
+        ensures rising { HasRisingKeys nat_cmp self.now.rows }
+    {
+        self.versions.rising();
     }
 
     /// Whether the key is there, with or without a shape.
@@ -163,7 +172,7 @@ impl Rows {
     /// Commits all that the session wrote: its shapes are the committed ones then, and the keys at
     /// which it left none are gone. It takes no memory, and no room is lost.
     pub fn keep(&mut self, s: Session)
-        ensures rows { self.new.rows ≡ settled End.Keep s self.old.rows }
+        ensures rows { self.new.rows ≡ settled WritesEnd.Keep s self.old.rows }
         ensures spare { self.old.spare ≤ self.new.spare }
     {
         self.versions.keep(s);
@@ -172,7 +181,7 @@ impl Rows {
     /// Drops all that the session wrote: the committed shapes stay, and the keys at which there is
     /// none are gone. It takes no memory, and no room is lost.
     pub fn undo(&mut self, s: Session)
-        ensures rows { self.new.rows ≡ settled End.Undo s self.old.rows }
+        ensures rows { self.new.rows ≡ settled WritesEnd.Undo s self.old.rows }
         ensures spare { self.old.spare ≤ self.new.spare }
     {
         self.versions.undo(s);
@@ -211,7 +220,7 @@ fn push_committed(
     key: u32,
     version: &Version<Shape>,
 ) -> Result<(), AllocError>
-    requires { IfSome version.now.committed (IsNext rows.old key) }
+    requires { IfSome version.now.committed (IsNextRow rows.old key) }
     ensures { OnOk result (rows.new ≡ rows.old ++ committed_rows ((key, version.now) ∷ [])) }
 {
     if let Some(shape) = &version.committed {

@@ -140,3 +140,17 @@ fn copies_what_is_committed(rt: HostRuntime) -> Result<(), Fail> {
     assert_eq!(rt; x_of(committed.shape_at(20)), Some(2));
     Ok(())
 }
+
+// Many rows, with falling keys.
+#[test]
+fn many_rows(rt: HostRuntime) -> Result<(), Fail> {
+    let s = session(1)?;
+    let mut rows = Rows::new(rt.alloc());
+    for k in 0..300u32 {
+        put(&mut rows, s, 299 - k)?;
+    }
+    assert_eq!(rt; rows.first_key(), Key::Row(0));
+    assert_eq!(rt; rows.next_key(150), Key::Row(151));
+    assert_eq!(rt; rows.next_key(299), Key::RowEnd);
+    Ok(())
+}

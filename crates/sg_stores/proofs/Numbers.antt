@@ -33,8 +33,8 @@ nat_at_most x y h = let e : leb x y ≡ true = sym (is_le-nat_cmp x y) ∙ h in 
 pub nat_above : (x y : ℕ) → is_le (nat_cmp x y) ≡ false → y < x
 nat_above x y h = let e : leb x y ≡ false = sym (is_le-nat_cmp x y) ∙ h in grind arith
 
-pub is_above : (x y : ℕ) → y < x → is_le (nat_cmp x y) ≡ false
-is_above x y h = let e : leb x y ≡ false = grind arith in is_le-nat_cmp x y ∙ e
+pub not_at_most : (x y : ℕ) → y < x → is_le (nat_cmp x y) ≡ false
+not_at_most x y h = let e : leb x y ≡ false = grind arith in is_le-nat_cmp x y ∙ e
 
 pub is_lt-nat_cmp : (x y : ℕ) → is_lt (nat_cmp x y) ≡ ltb x y
 is_lt-nat_cmp x y = by_lt (nat_lt x y) refl

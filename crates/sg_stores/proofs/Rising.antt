@@ -10,7 +10,7 @@ use Rattle.std.specs.Map.{keys_of, lookup}
 use Rattle.std.specs.BTreeMap.{insert_entry}
 use Rattle.std.proofs.lemmas.Map.{keys-set_value}
 use Rattle.sg_versions.specs.declared.version.Version.{Version}
-use Rattle.sg_versions.specs.declared.version.End.{End}
+use Rattle.sg_versions.specs.declared.version.WritesEnd.{WritesEnd}
 use Rattle.sg_versions.specs.Versions.{is_emptied, ended_of, settled, change_by, change_at}
 use Rattle.sg_versions.proofs.Settling.{settled_cons}
 
@@ -57,7 +57,7 @@ module _ {K V : Type 0} (cmp : K → K → Ordering) where
   rising_changed test f rows rising = subst (IsStrictlySortedBy cmp) (sym (keys_changed test f rows)) rising
 
   -- ---- a session's writes end
-  module _ (e : End) (s : ℕ) where
+  module _ (e : WritesEnd) (s : ℕ) where
     all_by : (P : K → Type 0) (r : K × Version V) (left : List (K × Version V)) (b : Bool) → P r.0 → AllByRecursion P (keys_of left) → AllByRecursion P (keys_of (cond b left ((r.0, ended_of e s r.1) ∷ left)))
     all_by P r left true here rest = rest
     all_by P r left false here rest = (here, rest)

@@ -11,8 +11,8 @@ use Rattle.std.specs.BTreeMap.{insert_entry, is_at}
 use Rattle.std.proofs.lemmas.Bool.{eq-eqb}
 use Rattle.std.proofs.lemmas.Cmp.{tied_itself}
 use Rattle.sg_versions.specs.declared.version.Version.{Version}
-use Rattle.sg_versions.specs.declared.version.End.{End}
-use Rattle.sg_versions.specs.declared.version.End.TheVariants.{Keep, Undo}
+use Rattle.sg_versions.specs.declared.version.WritesEnd.{WritesEnd}
+use Rattle.sg_versions.specs.declared.version.WritesEnd.TheVariants.{Keep, Undo}
 use Rattle.sg_versions.specs.Versions.{is_writer, seen, visible, fresh, written, outcome, ended, settled_version}
 use Rattle.sg_versions.specs.Writers.{writer_of}
 use Rattle.sg_versions.proofs.Orders.{lookup_alike, lookup_inserted}
@@ -30,11 +30,11 @@ module _ (s : ℕ) where
 module _ {V : Type 0} (s : ℕ) where
   -- ---- the end of the writes
   -- what the end leaves to be seen
-  abbrev pub left : End → Option (Version V) → Option V
+  abbrev pub left : WritesEnd → Option (Version V) → Option V
   left Keep o = visible s o
   left Undo o = committed_in o
 
-  abbrev settle_by : Bool → End → Version V → Option (Version V)
+  abbrev settle_by : Bool → WritesEnd → Version V → Option (Version V)
   settle_by b e v = cond (b && is_none (outcome e v)) None (Some (cond b (ended e v) v))
 
   seen_left : (o : Option V) → visible s (cond (is_none o) None (Some (record { committed = o; writer = None; live = None }))) ≡ o
@@ -49,37 +49,37 @@ module _ {V : Type 0} (s : ℕ) where
   free_left None = refl
   free_left (Some x) = refl
 
-  outcome_is : (e : End) (v : Version V) → is_writer s v.writer ≡ true → outcome e v ≡ left e (Some v)
+  outcome_is : (e : WritesEnd) (v : Version V) → is_writer s v.writer ≡ true → outcome e v ≡ left e (Some v)
   outcome_is Keep v mine = sym (ap (λ b. cond b v.live v.committed) mine)
   outcome_is Undo v mine = refl
 
-  same_is : (e : End) (v : Version V) → is_writer s v.writer ≡ false → left e (Some v) ≡ v.committed
+  same_is : (e : WritesEnd) (v : Version V) → is_writer s v.writer ≡ false → left e (Some v) ≡ v.committed
   same_is Keep v free = ap (λ b. cond b v.live v.committed) free
   same_is Undo v free = refl
 
-  seen_by : (e : End) (v : Version V) → (is_writer s v.writer ≡ false) ⊎ (is_writer s v.writer ≡ true) → visible s (settled_version e s (Some v)) ≡ left e (Some v)
+  seen_by : (e : WritesEnd) (v : Version V) → (is_writer s v.writer ≡ false) ⊎ (is_writer s v.writer ≡ true) → visible s (settled_version e s (Some v)) ≡ left e (Some v)
   seen_by e v (inl free) = ap (λ b. visible s (settle_by b e v)) free ∙ ap (λ b. cond b v.live v.committed) free ∙ sym (same_is e v free)
   seen_by e v (inr mine) = ap (λ b. visible s (settle_by b e v)) mine ∙ seen_left (outcome e v) ∙ outcome_is e v mine
 
-  pub settled_seen : (e : End) (o : Option (Version V)) → IsOwn s o → visible s (settled_version e s o) ≡ left e o
+  pub settled_seen : (e : WritesEnd) (o : Option (Version V)) → IsOwn s o → visible s (settled_version e s o) ≡ left e o
   settled_seen Keep None own = refl
   settled_seen Undo None own = refl
   settled_seen e (Some v) own = seen_by e v (mine_or_free s v.writer own)
 
-  committed_by : (e : End) (v : Version V) → (is_writer s v.writer ≡ false) ⊎ (is_writer s v.writer ≡ true) → committed_in (settled_version e s (Some v)) ≡ left e (Some v)
+  committed_by : (e : WritesEnd) (v : Version V) → (is_writer s v.writer ≡ false) ⊎ (is_writer s v.writer ≡ true) → committed_in (settled_version e s (Some v)) ≡ left e (Some v)
   committed_by e v (inl free) = ap (λ b. committed_in (settle_by b e v)) free ∙ sym (same_is e v free)
   committed_by e v (inr mine) = ap (λ b. committed_in (settle_by b e v)) mine ∙ committed_left (outcome e v) ∙ outcome_is e v mine
 
-  pub settled_committed : (e : End) (o : Option (Version V)) → IsOwn s o → committed_in (settled_version e s o) ≡ left e o
+  pub settled_committed : (e : WritesEnd) (o : Option (Version V)) → IsOwn s o → committed_in (settled_version e s o) ≡ left e o
   settled_committed Keep None own = refl
   settled_committed Undo None own = refl
   settled_committed e (Some v) own = committed_by e v (mine_or_free s v.writer own)
 
-  own_by : (e : End) (v : Version V) → IsOwn s (Some v) → (is_writer s v.writer ≡ false) ⊎ (is_writer s v.writer ≡ true) → IsOwn s (settled_version e s (Some v))
+  own_by : (e : WritesEnd) (v : Version V) → IsOwn s (Some v) → (is_writer s v.writer ≡ false) ⊎ (is_writer s v.writer ≡ true) → IsOwn s (settled_version e s (Some v))
   own_by e v own (inl free) = subst (IsOwn s) (sym (ap (λ b. settle_by b e v) free)) own
   own_by e v own (inr mine) = inl (ap (λ b. writer_of (settle_by b e v)) mine ∙ free_left (outcome e v))
 
-  pub settled_own : (e : End) (o : Option (Version V)) → IsOwn s o → IsOwn s (settled_version e s o)
+  pub settled_own : (e : WritesEnd) (o : Option (Version V)) → IsOwn s o → IsOwn s (settled_version e s o)
   settled_own e None own = inl refl
   settled_own e (Some v) own = own_by e v own (mine_or_free s v.writer own)
 

@@ -15,7 +15,7 @@ use Rattle.std.specs.BTreeMap.{insert_entry, is_at}
 use Rattle.sg_pages.specs.Stored.{HasRisingKeys}
 use Rattle.sg_groups.specs.Groups.{pair_cmp, has_pair}
 use Rattle.sg_versions.specs.declared.version.Version.{Version}
-use Rattle.sg_versions.specs.declared.version.End.{End}
+use Rattle.sg_versions.specs.declared.version.WritesEnd.{WritesEnd}
 use Rattle.sg_versions.specs.Versions.{is_writer, kept_value, fresh, written, ended, outcome, change_by, change_at}
 use Rattle.sg_versions.specs.Writers.{session_cmp, writer_of, writer_at, unwritten, settle_by, settle_at, is_emptied_by, IsIndexed}
 use Rattle.sg_versions.proofs.Orders.{lookup_alike, lookup_set, lookup_removed, lookup_inserted}
@@ -72,12 +72,12 @@ module _ {V : Type 0} where
   remove_set test [] w = refl
   remove_set test (r ∷ rows) w = remove_set_by test r rows w _ refl (remove_set test rows w)
 
-  then_by : {K : Type 0} (test : K → Bool) (e : End) (rows : List (K × Version V)) (o : Option (Version V)) → is_emptied_by e o ≡ true → remove_entry test (change_by test (ended e) rows o) ≡ settle_by test e rows o
+  then_by : {K : Type 0} (test : K → Bool) (e : WritesEnd) (rows : List (K × Version V)) (o : Option (Version V)) → is_emptied_by e o ≡ true → remove_entry test (change_by test (ended e) rows o) ≡ settle_by test e rows o
   then_by test e rows None h = absurd (true≢false (sym h))
   then_by test e rows (Some v) h = rw h (remove_set test rows (ended e v))
 
   -- where nothing is left the key goes
-  pub settled_then : {K : Type 0} (test : K → Bool) (e : End) (rows : List (K × Version V)) → is_emptied_by e (lookup test rows) ≡ true → remove_entry test (change_at test (ended e) rows) ≡ settle_at test e rows
+  pub settled_then : {K : Type 0} (test : K → Bool) (e : WritesEnd) (rows : List (K × Version V)) → is_emptied_by e (lookup test rows) ≡ true → remove_entry test (change_at test (ended e) rows) ≡ settle_at test e rows
   settled_then test e rows h = then_by test e rows _ h
 
 module _ {K V : Type 0} (cmp : K → K → Ordering) (total : IsTotalOrder cmp) (rows : List (K × Version V)) (k : K) where
@@ -95,13 +95,13 @@ module _ {K V : Type 0} (cmp : K → K → Ordering) (total : IsTotalOrder cmp) 
   changed : (s : ℕ) (value : Option V) (b : K) → IsSome (lookup (is_at (cmp k)) rows) → writer_at cmp b (change_at (is_at (cmp k)) (written s value) rows) ≡ cond (is_eq (cmp k b)) (Some s) (writer_at cmp b rows)
   changed s value b some = changed_by s value b _ refl some
 
-  ended_left : (e : End) (b : K) (v : Version V) (t : Bool) → lookup (is_at (cmp k)) rows ≡ Some v → IsStrictlySortedBy cmp (keys_of rows)
+  ended_left : (e : WritesEnd) (b : K) (v : Version V) (t : Bool) → lookup (is_at (cmp k)) rows ≡ Some v → IsStrictlySortedBy cmp (keys_of rows)
       → writer_at cmp b (cond t (remove_entry (is_at (cmp k)) rows) (set_value (is_at (cmp k)) rows (ended e v))) ≡ cond (is_eq (cmp k b)) None (writer_at cmp b rows)
   ended_left e b v true found rising = ap writer_of (lookup_removed cmp total k b rows rising) ∙ writer_cond_none (is_eq (cmp k b)) (lookup (is_at (cmp b)) rows)
   ended_left e b v false found rising =
       ap writer_of (lookup_set cmp total k b (ended e v) rows (subst IsSome (sym found) refl)) ∙ writer_cond (is_eq (cmp k b)) (ended e v) (lookup (is_at (cmp b)) rows)
 
-  ended_by : (e : End) (b : K) (s : ℕ) (o : Option (Version V)) → lookup (is_at (cmp k)) rows ≡ o → is_writer s (writer_of o) ≡ true → IsStrictlySortedBy cmp (keys_of rows)
+  ended_by : (e : WritesEnd) (b : K) (s : ℕ) (o : Option (Version V)) → lookup (is_at (cmp k)) rows ≡ o → is_writer s (writer_of o) ≡ true → IsStrictlySortedBy cmp (keys_of rows)
       → writer_at cmp b (settle_by (is_at (cmp k)) e rows o) ≡ cond (is_eq (cmp k b)) None (writer_at cmp b rows)
   ended_by e b s None found own rising = absurd (true≢false (sym own))
   ended_by e b s (Some v) found own rising = ended_left e b v (is_none (outcome e v)) found rising
@@ -156,7 +156,7 @@ module _ {K V : Type 0} (cmp : K → K → Ordering) (total : IsTotalOrder cmp) 
     }
 
     -- the writes at a key of the session's own end
-    pub indexed_settled : (s : ℕ) (e : End) (new : List (K × Version V)) (less : List (ℕ × K)) (left : ℕ) → is_writer s (writer_at cmp k rows) ≡ true → new ≡ settle_at (is_at (cmp k)) e rows → HasRisingKeys cmp new
+    pub indexed_settled : (s : ℕ) (e : WritesEnd) (new : List (K × Version V)) (less : List (ℕ × K)) (left : ℕ) → is_writer s (writer_at cmp k rows) ≡ true → new ≡ settle_at (is_at (cmp k)) e rows → HasRisingKeys cmp new
         → ((a : ℕ) (b : K) → has_pair session_cmp cmp less a b ≡ (not (is_eq (pair_cmp session_cmp cmp (a, b) (s, k))) && has_pair session_cmp cmp listed a b)) → room + 1 ≤ left → IsIndexed cmp new less left
     indexed_settled s e new less left own is rising drops spare = record {
       rising = rising;

@@ -11,7 +11,7 @@ use Rattle.std.specs.BTreeMap.{is_at, insert_entry}
 use Rattle.std.proofs.lemmas.List.Sums.{sum_by-cons}
 use Rattle.std.proofs.lemmas.Map.Entries.{sum_by-remove_entry, sum_by-set_value, sum_by-insert_entry}
 use Rattle.sg_versions.specs.declared.version.Version.{Version}
-use Rattle.sg_versions.specs.declared.version.End.{End}
+use Rattle.sg_versions.specs.declared.version.WritesEnd.{WritesEnd}
 use Rattle.sg_versions.specs.Versions.{is_writer, written, ended, outcome, change_by, change_at}
 use Rattle.sg_versions.specs.Writers.{writer_of, free, unwritten, taken, count_written, settle_by, settle_at}
 
@@ -39,16 +39,16 @@ module _ {K V : Type 0} where
   pub unwritten_inserted : {cmp : K → K → Ordering} → IsTotalOrder cmp → (rows : List (K × Version V)) (k : K) (v : Version V) → IsStrictlySortedBy cmp (keys_of rows) → unwritten (insert_entry cmp rows k v) ≤ unwritten rows + free v
   unwritten_inserted total rows k v rising = let sum = sum_by-insert_entry free total rows k v rising in omega (arith, sum)
 
-  settled_left : (test : K → Bool) (e : End) (rows : List (K × Version V)) (v : Version V) (b : Bool) → lookup test rows ≡ Some v → unwritten (cond b (remove_entry test rows) (set_value test rows (ended e v))) ≤ unwritten rows + 1
+  settled_left : (test : K → Bool) (e : WritesEnd) (rows : List (K × Version V)) (v : Version V) (b : Bool) → lookup test rows ≡ Some v → unwritten (cond b (remove_entry test rows) (set_value test rows (ended e v))) ≤ unwritten rows + 1
   settled_left test e rows v true found = omega (arith, unwritten_removed test rows)
   settled_left test e rows v false found = omega (arith, unwritten_set test rows v (ended e v) found)
 
-  settled_by : (test : K → Bool) (e : End) (rows : List (K × Version V)) (o : Option (Version V)) → lookup test rows ≡ o → unwritten (settle_by test e rows o) ≤ unwritten rows + 1
+  settled_by : (test : K → Bool) (e : WritesEnd) (rows : List (K × Version V)) (o : Option (Version V)) → lookup test rows ≡ o → unwritten (settle_by test e rows o) ≤ unwritten rows + 1
   settled_by test e rows None found = omega arith
   settled_by test e rows (Some v) found = settled_left test e rows v (is_none (outcome e v)) found
 
   -- the end of the writes at one key leaves at most one key more without a writer
-  pub unwritten_settled : (test : K → Bool) (e : End) (rows : List (K × Version V)) → unwritten (settle_at test e rows) ≤ unwritten rows + 1
+  pub unwritten_settled : (test : K → Bool) (e : WritesEnd) (rows : List (K × Version V)) → unwritten (settle_at test e rows) ≤ unwritten rows + 1
   unwritten_settled test e rows = settled_by test e rows _ refl
 
 -- a key has a writer or none
@@ -87,7 +87,7 @@ module _ {K V : Type 0} where
     pub counted_written : (s : ℕ) (value : Option V) → IsSome (lookup test rows) → count_written (change_at test (written s value) rows) ≡ count_written rows + cond (is_none (writer_of (lookup test rows))) 1 0
     counted_written s value some = counted_by s value _ refl some
 
-    counted_left : (e : End) (v : Version V) (b : Bool) → lookup test rows ≡ Some v → taken v ≡ 1 → count_written (cond b (remove_entry test rows) (set_value test rows (ended e v))) + 1 ≡ count_written rows
+    counted_left : (e : WritesEnd) (v : Version V) (b : Bool) → lookup test rows ≡ Some v → taken v ≡ 1 → count_written (cond b (remove_entry test rows) (set_value test rows (ended e v))) + 1 ≡ count_written rows
     counted_left e v true found one =
         let sum = sum_by-remove_entry taken test rows in
         let gone : unwrap_or (option_map taken (lookup test rows)) 0 ≡ taken v = ap (λ o. unwrap_or (option_map taken o) 0) found in
@@ -106,10 +106,10 @@ module _ {K V : Type 0} where
     pub counted_removed : (s : ℕ) → writer_of (lookup test rows) ≡ Some s → count_written (remove_entry test rows) + 1 ≡ count_written rows
     counted_removed s own = removed_count s _ refl own
 
-    settled_count : (e : End) (s : ℕ) (o : Option (Version V)) → lookup test rows ≡ o → is_writer s (writer_of o) ≡ true → count_written (settle_by test e rows o) + 1 ≡ count_written rows
+    settled_count : (e : WritesEnd) (s : ℕ) (o : Option (Version V)) → lookup test rows ≡ o → is_writer s (writer_of o) ≡ true → count_written (settle_by test e rows o) + 1 ≡ count_written rows
     settled_count e s None found own = absurd (true≢false (sym own))
     settled_count e s (Some v) found own = counted_left e v (is_none (outcome e v)) found (ap {B = ℕ} (λ b. cond b 0 1) (owned s v.writer own))
 
     -- a key less has a writer, once its writes have ended
-    pub counted_settled : (e : End) (s : ℕ) → is_writer s (writer_of (lookup test rows)) ≡ true → count_written (settle_at test e rows) + 1 ≡ count_written rows
+    pub counted_settled : (e : WritesEnd) (s : ℕ) → is_writer s (writer_of (lookup test rows)) ≡ true → count_written (settle_at test e rows) + 1 ≡ count_written rows
     counted_settled e s own = settled_count e s _ refl own

@@ -15,11 +15,11 @@ use Rattle.std.proofs.lemmas.Map.Entries.{none_past_head, option_filter, lookup-
 use Rattle.std.proofs.lemmas.Map.Made.{lookup-map_values}
 use Rattle.std.proofs.lemmas.Map.Keys.{sorted_tail, IsDistinct-from_sorted}
 use Rattle.sg_versions.specs.declared.version.Version.{Version}
-use Rattle.sg_versions.specs.declared.version.End.{End}
+use Rattle.sg_versions.specs.declared.version.WritesEnd.{WritesEnd}
 use Rattle.sg_versions.specs.Versions.{is_writer, outcome, ended, is_emptied, ended_of, settled, settled_version}
 use Rattle.sg_versions.specs.Writers.{writer_of, writer_at, settle_by, settle_at}
 
-module _ {K V : Type 0} (e : End) (s : ℕ) where
+module _ {K V : Type 0} (e : WritesEnd) (s : ℕ) where
   settled_by : (r : K × Version V) (rows : List (K × Version V)) (b : Bool) → is_emptied e s r.1 ≡ b → settled e s (r ∷ rows) ≡ cond b (settled e s rows) ((r.0, ended_of e s r.1) ∷ settled e s rows)
   settled_by r rows true h = rw h refl
   settled_by r rows false h = rw h refl

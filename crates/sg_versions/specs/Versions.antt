@@ -4,8 +4,8 @@ use Rattle.std.specs.Option.{is_none}
 use Rattle.std.specs.Map.{lookup, set_value}
 use Rattle.std.specs.Coded.{Coded, code_by, coded×, coded_ℕ, coded_list, coded_option}
 use Rattle.sg_versions.specs.declared.version.Version.{Version}
-use Rattle.sg_versions.specs.declared.version.End.{End}
-use Rattle.sg_versions.specs.declared.version.End.TheVariants.{Keep, Undo}
+use Rattle.sg_versions.specs.declared.version.WritesEnd.{WritesEnd}
+use Rattle.sg_versions.specs.declared.version.WritesEnd.TheVariants.{Keep, Undo}
 
 -- the rows by rising key, and how many new keys fit without further memory
 pub record Versioned (K V : Type 0) : Type 0 where
@@ -40,29 +40,29 @@ module _ {V : Type 0} where
   written s value v = record { committed = v.committed; writer = Some s; live = value }
 
   -- what the end of the writer's writes leaves
-  abbrev pub outcome : End → Version V → Option V
+  abbrev pub outcome : WritesEnd → Version V → Option V
   outcome Keep v = v.live
   outcome Undo v = v.committed
 
-  abbrev pub ended : End → Version V → Version V
+  abbrev pub ended : WritesEnd → Version V → Version V
   ended e v = record { committed = outcome e v; writer = None; live = None }
 
   -- the session is the writer, and the end of its writes leaves nothing
-  abbrev pub is_emptied : End → ℕ → Version V → Bool
+  abbrev pub is_emptied : WritesEnd → ℕ → Version V → Bool
   is_emptied e s v = is_writer s v.writer && is_none (outcome e v)
 
   -- the writes of this session have ended, and those of the others stand
-  abbrev pub ended_of : End → ℕ → Version V → Version V
+  abbrev pub ended_of : WritesEnd → ℕ → Version V → Version V
   ended_of e s v = cond (is_writer s v.writer) (ended e v) v
 
   -- what is left of a key where all writes of this session have ended
-  abbrev pub settled_version : End → ℕ → Option (Version V) → Option (Version V)
+  abbrev pub settled_version : WritesEnd → ℕ → Option (Version V) → Option (Version V)
   settled_version e s None = None
   settled_version e s (Some v) = cond (is_emptied e s v) None (Some (ended_of e s v))
 
 module _ {K V : Type 0} where
   -- all writes of the session have ended, and the keys at which nothing is left are gone
-  abbrev pub settled : End → ℕ → List (K × Version V) → List (K × Version V)
+  abbrev pub settled : WritesEnd → ℕ → List (K × Version V) → List (K × Version V)
   settled e s rows = map (λ r. (r.0, ended_of e s r.1)) (filter (λ r. not (is_emptied e s r.1)) rows)
 
   -- with f of the version of the first key that passes, whose version is this

@@ -8,7 +8,7 @@ use Rattle.sg_modes.specs.contracts.numbers.SessionOrd.TheImpl as sessions
 use Rattle.sg_pages.specs.Stored.{Stored, HasRisingKeys}
 use Rattle.sg_groups.specs.Groups.{Grouped, has_pair}
 use Rattle.sg_versions.specs.declared.version.Version.{Version}
-use Rattle.sg_versions.specs.declared.version.End.{End}
+use Rattle.sg_versions.specs.declared.version.WritesEnd.{WritesEnd}
 use Rattle.sg_versions.specs.Versions.{Versioned, is_writer, outcome, ended}
 
 abbrev pub session_cmp : ℕ → ℕ → Ordering
@@ -54,15 +54,15 @@ abbrev pub seen_as : {K V : Type 0} → Stored K (Version V) → Grouped ℕ K �
 seen_as rows listed = record { rows = rows.pairs; spare = min rows.spare (listed.spare - unwritten rows.pairs) }
 
 -- the end of the writes leaves nothing there
-abbrev pub is_emptied_by : {V : Type 0} → End → Option (Version V) → Bool
+abbrev pub is_emptied_by : {V : Type 0} → WritesEnd → Option (Version V) → Bool
 is_emptied_by e None = false
 is_emptied_by e (Some v) = is_none (outcome e v)
 
 -- the writes at the first key that passes, whose version is this, have ended, and it is gone where nothing is left
-abbrev pub settle_by : {K V : Type 0} → (K → Bool) → End → List (K × Version V) → Option (Version V) → List (K × Version V)
+abbrev pub settle_by : {K V : Type 0} → (K → Bool) → WritesEnd → List (K × Version V) → Option (Version V) → List (K × Version V)
 settle_by test e rows None = rows
 settle_by test e rows (Some v) = cond (is_none (outcome e v)) (remove_entry test rows) (set_value test rows (ended e v))
 
 -- the same by the key alone
-abbrev pub settle_at : {K V : Type 0} → (K → Bool) → End → List (K × Version V) → List (K × Version V)
+abbrev pub settle_at : {K V : Type 0} → (K → Bool) → WritesEnd → List (K × Version V) → List (K × Version V)
 settle_at test e rows = settle_by test e rows (lookup test rows)

@@ -7,7 +7,7 @@
 mod version;
 mod versions;
 
-pub use version::{End, Version};
+pub use version::{Version, WritesEnd};
 pub use versions::Versions;
 
 #[cfg(test)]

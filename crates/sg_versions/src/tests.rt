@@ -1,5 +1,8 @@
+ghost use Rattle.std.specs.Prelude.{◌≤◌};
+
 use super::*;
 use sg_modes::Session;
+use std::alloc::AllocError;
 use std::test::Fail;
 
 fn session(number: u8) -> Result<Session, Fail> {
@@ -51,5 +54,34 @@ fn what_is_seen(rt: HostRuntime) -> Result<(), Fail> {
     };
     assert_eq!(rt; version.seen(first).copied(), None);
     assert_eq!(rt; version.seen(session(2)?).copied(), Some(1));
+    Ok(())
+}
+
+// Many keys of one session, kept, and as many of another, taken back.
+#[test]
+fn many_keys(rt: HostRuntime) -> Result<(), Fail> {
+    let (first, second) = (session(1)?, session(2)?);
+    let mut versions: Versions<u32, u64> = Versions::new(rt.alloc());
+    put_all(&mut versions, first, 0)?;
+    versions.keep(first);
+    put_all(&mut versions, second, 300)?;
+    versions.undo(second);
+    assert_eq!(rt; versions.visible(second, &299).copied(), Some(1));
+    assert!(rt; versions.get(&300).is_none());
+    assert_eq!(rt; versions.at_or_after(&299).map(|row| *row.0), Some(299));
+    Ok(())
+}
+
+// Writes 300 keys from this one on, each with 1.
+fn put_all(versions: &mut Versions<u32, u64>, s: Session, from: u32) -> Result<(), AllocError>
+    requires { from ≤ 300 }
+{
+    for k in 0..300u32 {
+        versions.reserve(1)?;
+        if versions.get(&(from + k)).is_none() {
+            versions.put_reserved(s, from + k);
+            versions.write(s, from + k, Some(1));
+        }
+    }
     Ok(())
 }

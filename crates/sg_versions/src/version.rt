@@ -6,7 +6,7 @@ use sg_modes::Session;
 
 /// How a session's writes end.
 #[derive(Clone, Copy, PartialEq, Eq, Debug)]
-pub enum End {
+pub enum WritesEnd {
     /// What it wrote is committed.
     Keep,
     /// What it wrote is dropped.
@@ -48,13 +48,13 @@ impl<V: Drop> Version<V> {
     }
 
     // Ends the writes, and says whether nothing is left.
-    pub(crate) fn settle(&mut self, end: End) -> bool
+    pub(crate) fn settle(&mut self, end: WritesEnd) -> bool
         ensures version { self.new ≡ ended end self.old }
         ensures nothing { result ≡ is_none (outcome end self.old) }
     {
         let live = self.live.take();
         self.writer = None;
-        if end == End::Keep {
+        if end == WritesEnd::Keep {
             self.committed = live;
         }
         self.committed.is_none()

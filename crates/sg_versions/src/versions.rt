@@ -8,7 +8,7 @@ ghost use Rattle.sg_pages.specs.Stored.{HasRisingKeys, first_from, first_past};
 ghost use Rattle.sg_versions.specs.Versions.{visible, fresh, kept_value, written, outcome, ended, is_writer, settled, settled_version, change_at};
 ghost use Rattle.sg_versions.specs.Writers.{writer_of, is_emptied_by, settle_at};
 
-use crate::version::{End, Version};
+use crate::version::{Version, WritesEnd};
 use sg_groups::Groups;
 use sg_modes::Session;
 use sg_pages::Pages;
@@ -74,6 +74,14 @@ impl<K: Ord + Copy, V: Drop> Versions<K, V> {
             None => Err(AllocError),
             Some(room) => self.listed.reserve(room),
         }
+    }
+
+    /// That the keys rise, for a proof that rests on it. It does nothing.
+    #[inline(always)]
+    pub fn rising(&self)
+        ensures { HasRisingKeys K.cmp self.now.rows }
+    {
+        let _rows = &self.rows;
     }
 
     /// What the key has; `None` exactly where the key isn't there.
@@ -179,24 +187,24 @@ impl<K: Ord + Copy, V: Drop> Versions<K, V> {
     /// Commits all that the session wrote: its values are the committed ones then, and the keys at
     /// which it left none are gone. It takes no memory, and no room is lost.
     pub fn keep(&mut self, s: Session)
-        ensures rows { self.new.rows ≡ settled End.Keep s self.old.rows }
-        ensures each { (k : K) → lookup (is_at (K.cmp k)) self.new.rows ≡ settled_version End.Keep s (lookup (is_at (K.cmp k)) self.old.rows) }
+        ensures rows { self.new.rows ≡ settled WritesEnd.Keep s self.old.rows }
+        ensures each { (k : K) → lookup (is_at (K.cmp k)) self.new.rows ≡ settled_version WritesEnd.Keep s (lookup (is_at (K.cmp k)) self.old.rows) }
         ensures spare { self.old.spare ≤ self.new.spare }
     {
-        self.settle(s, End::Keep);
+        self.settle(s, WritesEnd::Keep);
     }
 
     /// Drops all that the session wrote: the committed values stay, and the keys at which there is
     /// none are gone. It takes no memory, and no room is lost.
     pub fn undo(&mut self, s: Session)
-        ensures rows { self.new.rows ≡ settled End.Undo s self.old.rows }
-        ensures each { (k : K) → lookup (is_at (K.cmp k)) self.new.rows ≡ settled_version End.Undo s (lookup (is_at (K.cmp k)) self.old.rows) }
+        ensures rows { self.new.rows ≡ settled WritesEnd.Undo s self.old.rows }
+        ensures each { (k : K) → lookup (is_at (K.cmp k)) self.new.rows ≡ settled_version WritesEnd.Undo s (lookup (is_at (K.cmp k)) self.old.rows) }
         ensures spare { self.old.spare ≤ self.new.spare }
     {
-        self.settle(s, End::Undo);
+        self.settle(s, WritesEnd::Undo);
     }
 
-    fn settle(&mut self, s: Session, end: End)
+    fn settle(&mut self, s: Session, end: WritesEnd)
         ensures rows { self.new.rows ≡ settled end s self.old.rows }
         ensures each { (k : K) → lookup (is_at (K.cmp k)) self.new.rows ≡ settled_version end s (lookup (is_at (K.cmp k)) self.old.rows) }
         ensures spare { self.old.spare ≤ self.new.spare }
@@ -229,7 +237,7 @@ fn write_row<K: Ord + Copy, V: Drop>(
 }
 
 // Ends what was written at the key, which goes where nothing is left.
-fn settle_row<K: Ord + Copy, V: Drop>(rows: &mut Pages<K, Version<V>>, key: &K, end: End)
+fn settle_row<K: Ord + Copy, V: Drop>(rows: &mut Pages<K, Version<V>>, key: &K, end: WritesEnd)
     ensures rows { rows.new.pairs ≡ settle_at (is_at (K.cmp key.now)) end rows.old.pairs }
     ensures spare { rows.old.spare ≤ rows.new.spare }
     ensures rising { HasRisingKeys K.cmp rows.new.pairs }
@@ -240,7 +248,7 @@ fn settle_row<K: Ord + Copy, V: Drop>(rows: &mut Pages<K, Version<V>>, key: &K, 
 }
 
 // Ends what was written at the key, and says whether nothing is left.
-fn end_row<K: Ord + Copy, V: Drop>(rows: &mut Pages<K, Version<V>>, key: &K, end: End) -> bool
+fn end_row<K: Ord + Copy, V: Drop>(rows: &mut Pages<K, Version<V>>, key: &K, end: WritesEnd) -> bool
     ensures rows { rows.new.pairs ≡ change_at (is_at (K.cmp key.now)) (ended end) rows.old.pairs }
     ensures nothing { result ≡ is_emptied_by end (lookup (is_at (K.cmp key.now)) rows.old.pairs) }
     ensures spare { rows.new.spare ≡ rows.old.spare }

@@ -3,10 +3,10 @@ use Rattle.std.proofs.Common.{ℕ, ◌≡◌, ◌≢◌, ◌+◌, ◌<◌, ◌�
 use mathlib.Core.Bool.{◌||◌}
 use mathlib.Core.Logic.{◌⊎◌}
 use Rattle.std.specs.List.{list_any}
-use Rattle.sg_modes.specs.BoolLaws.{true_or_false, clash, or_left, or_right, either, or_none, same_tests}
+use Rattle.sg_modes.proofs.BoolLaws.{true_or_false, clash, or_left, or_right, either, or_none, same_tests}
 use Rattle.sg_modes.specs.Sessions.{IsSession, AreSessions, has_session, with_session}
-use Rattle.sg_modes.specs.SessionLaws.{AreSessions-with, has_session-with}
-use Rattle.sg_modes.specs.Waits.{Chain, IsNext, NoCycle}
+use Rattle.sg_modes.proofs.SessionLaws.{AreSessions-with, has_session-with}
+use Rattle.sg_modes.specs.Waits.{Chain, IsNextMember, NoCycle}
 use Rattle.sg_waits.specs.Search.{within, Layer, Ahead, near_or_waiting}
 use Rattle.sg_waits.proofs.Named.{index_same, index_other, length-set}
 use Rattle.sg_waits.proofs.Finds.{Found, any_found, any_here, same_any, filter_none, filter_some, grows, few_sessions, Least}
@@ -44,7 +44,7 @@ nearest f s x n z m a h c = elim (le_or_lt n m) [
   | inr l ↦ absurd (clash (list_any (within f s m) (f x)) (any_here (within f s m) (f x) z h (chain_within f s m z c)) (a.fewest m l))
 ]
 
-pub next_is : (f : ℕ → List ℕ) (s x n y : ℕ) → Ahead f s x n → Least (within f s n) (f x) y → IsNext f s x y
+pub next_is : (f : ℕ → List ℕ) (s x n y : ℕ) → Ahead f s x n → Least (within f s n) (f x) y → IsNextMember f s x y
 next_is f s x n y a l = record {
   steps = n;
   waits = l.is_in;

@@ -3,7 +3,7 @@ use Rattle.std.proofs.Common.{ℕ, ◌≡◌, ◌<◌, ◌≤◌, arith, refl, s
 use mathlib.Core.Logic.{◌⊎◌}
 use Rattle.std.specs.Prelude.{ℤ, ◌<ℤ◌, ◌≤ℤ◌}
 use Rattle.std.proofs.lemmas.Int.{ints}
-use Rattle.sg_modes.specs.BoolLaws.{clash, either, or_right}
+use Rattle.sg_modes.proofs.BoolLaws.{clash, either, or_right}
 use Rattle.sg_modes.specs.Sessions.{RisingAbove, AreSessions, has_session}
 use Rattle.sg_modes.specs.Victims.{IsVictim}
 use Rattle.sg_waits.specs.Ranks.{no_rank, rank_of}

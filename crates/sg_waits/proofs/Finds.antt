@@ -3,9 +3,9 @@ use Rattle.std.proofs.Common.{ℕ, ◌≡◌, ◌≢◌, ◌+◌, ◌<◌, ◌�
 use mathlib.Core.Bool.{◌||◌, ◌&&◌}
 use mathlib.Core.Logic.{◌⊎◌}
 use Rattle.std.specs.List.{list_any}
-use Rattle.sg_modes.specs.BoolLaws.{true_or_false, clash, or_left, or_right, either, ne-eqb}
+use Rattle.sg_modes.proofs.BoolLaws.{true_or_false, clash, or_left, or_right, either, ne-eqb}
 use Rattle.sg_modes.specs.Sessions.{RisingAbove, AreSessions, has_session}
-use Rattle.sg_modes.specs.SessionLaws.{has_session-bounds, has_session-filter}
+use Rattle.sg_modes.proofs.SessionLaws.{has_session-bounds, has_session-filter}
 
 pub has_head : (x : ℕ) (xs : List ℕ) → has_session (x ∷ xs) x ≡ true
 has_head x xs = or_left (eqb x x) (has_session xs x) (eq-eqb x x refl)

@@ -2,7 +2,7 @@
 use Rattle.std.proofs.Common.{ℕ, ◌≡◌, ◌≢◌, ◌+◌, ◌-◌, ◌<◌, ◌≤◌, arith, refl, sym, ap, ◌∙◌, subst, Bool, true, false, not, cond, zero, suc, List, [], ◌∷◌, length, eqb, eqb-true, eq-eqb, inl, inr, slice_index_or, slice_set, replicate}
 use mathlib.Core.Bool.{◌||◌}
 use mathlib.Core.Logic.{◌⊎◌}
-use Rattle.sg_modes.specs.BoolLaws.{true_or_false, clash, ne-eqb, eqb-false}
+use Rattle.sg_modes.proofs.BoolLaws.{true_or_false, clash, ne-eqb, eqb-false}
 use Rattle.sg_modes.specs.Sessions.{IsSession, has_session}
 use Rattle.sg_modes.specs.Waits.{Wait, is_waiting, blockers_of, RisingWaits, AreWaits, with_wait, waits_after}
 use Rattle.sg_modes.proofs.WaitLaws.{RisingWaits-lower, blockers_of-below, blockers_of-above, same_waits, blockers_of-with, RisingWaits-with, blockers_of-after, RisingWaits-after, is_waiting-blockers, blockers-is_waiting}

@@ -2,10 +2,10 @@
 use Rattle.std.proofs.Common.{ℕ, ◌≡◌, ◌≤◌, arith, refl, sym, ap, ◌∙◌, subst, Bool, true, false, suc, List, [], ◌∷◌, eqb, eqb-true, eq-eqb, Some, None, slice_get, filter}
 use mathlib.Core.Bool.{◌||◌}
 use Rattle.std.specs.List.{list_any}
-use Rattle.sg_modes.specs.BoolLaws.{clash, or_none}
+use Rattle.sg_modes.proofs.BoolLaws.{clash, or_none}
 use Rattle.sg_modes.specs.Sessions.{IsSession, AreSessions, has_session, with_session}
-use Rattle.sg_modes.specs.SessionLaws.{has_session-with, AreSessions-with, member_is_session}
-use Rattle.sg_modes.specs.Waits.{AreNext, IsCycle, IsCycleSet}
+use Rattle.sg_modes.proofs.SessionLaws.{has_session-with, AreSessions-with, member_is_session}
+use Rattle.sg_modes.specs.Waits.{AreNextMembers, IsCycle, IsCycleSet}
 use Rattle.sg_waits.specs.Search.{within, Layer, Ahead}
 use Rattle.sg_waits.proofs.Finds.{Found, any_found, Least, least_first, first_in, first_none, filter_none}
 use Rattle.sg_waits.proofs.Chains.{next_is, ahead_more, ahead_other, layer_any}
@@ -21,7 +21,7 @@ pub record Way (f : ℕ → List ℕ) (s steps : ℕ) (members : List ℕ) (at l
   pub set : AreSessions members
   pub few : left ≤ steps
   pub ahead : Ahead f s at left
-  pub completes : (ys : List ℕ) → AreNext f s at ys → Whole f s members ys
+  pub completes : (ys : List ℕ) → AreNextMembers f s at ys → Whole f s members ys
 
 pub way_first : (f : ℕ → List ℕ) (s steps : ℕ) (members : List ℕ) → IsSession s → members ≡ with_session [] s → Ahead f s s steps → Way f s steps members s steps
 way_first f s steps members h e a = subst (λ (ns : List ℕ). Way f s steps ns s steps) (sym e) (record {

@@ -57,6 +57,14 @@ impl Waits {
         forget(&mut self.named, s);
     }
 
+    /// That the waits are by rising session, and each names others, for a proof that rests on it. It does nothing.
+    #[inline(always)]
+    pub fn in_order(&self)
+        ensures { AreWaits self.now }
+    {
+        let _named = &self.named;
+    }
+
     /// Whether a wait of the session stands.
     pub fn waits(&self, s: Session) -> bool
         ensures waits { result ≡ is_waiting self.now s }

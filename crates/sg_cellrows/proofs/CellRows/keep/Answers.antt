@@ -1,4 +1,4 @@
-use Rattle.sg_versions.specs.declared.version.End.TheVariants.{Keep}
+use Rattle.sg_versions.specs.declared.version.WritesEnd.TheVariants.{Keep}
 use Rattle.sg_cellrows.proofs.Mirrors.{mirrored_settled}
 use Rattle.sg_cellrows.proofs.CellRows.keep.Goals as goal
 

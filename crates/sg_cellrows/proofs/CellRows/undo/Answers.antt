@@ -1,4 +1,4 @@
-use Rattle.sg_versions.specs.declared.version.End.TheVariants.{Undo}
+use Rattle.sg_versions.specs.declared.version.WritesEnd.TheVariants.{Undo}
 use Rattle.sg_cellrows.proofs.Mirrors.{mirrored_settled}
 use Rattle.sg_cellrows.proofs.CellRows.undo.Goals as goal
 

@@ -1,6 +1,6 @@
 use Rattle.std.proofs.Common.{◌≡◌, [], ◌∷◌, Some, List, length, ap, ◌∙◌, sym, subst, arith}
 use Rattle.std.specs.Prelude.{ℕ}
-use Rattle.sg_groups.specs.Groups.{items_of, is_above, items_above}
+use Rattle.sg_groups.specs.Groups.{items_of, is_item_above, items_above}
 use Rattle.sg_locks.proofs.GrantLaws.{items_above-None, found_first, items_rise, none_passes}
 use Rattle.sg_locks.proofs.TableLaws.{holder_cmp, holder_total, IsFoundSoFar, found_none, found_more, found_same, found_all, blocks-items}
 use Rattle.sg_locks.proofs.Locks.blockers.Goals as goal
@@ -34,5 +34,5 @@ pub returns-clause-blockers : goal.returns-clause-blockers
 returns-clause-blockers g c = λ n.
     let all = items_of g.K.Ord.cmp c.args.key.now c.self.inside.by_key.pairs in
     let above = items_above holder_cmp c.loop-found.last all in
-    let none : above ≡ [] = none_passes holder_cmp (is_above holder_cmp c.loop-found.last) all (sym c.next.ensures.first ∙ c.in_default.is) in
+    let none : above ≡ [] = none_passes holder_cmp (is_item_above holder_cmp c.loop-found.last) all (sym c.next.ensures.first ∙ c.in_default.is) in
     rw (← c.self.view_is) (found_all all above c.loop-found.blockers c.args.s c.args.mode c.loop-found.invariant none n ∙ sym (blocks-items g.K.Ord.cmp c.args.key.now c.args.mode n c.self.inside.by_key.pairs c.args.s))

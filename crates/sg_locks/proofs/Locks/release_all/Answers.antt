@@ -1,12 +1,12 @@
 use Rattle.std.proofs.Common.{None, ◌∙◌, sym, arith}
-use Rattle.sg_groups.specs.Groups.{is_above}
+use Rattle.sg_groups.specs.Groups.{is_item_above}
 use Rattle.sg_locks.proofs.GrantLaws.{found_there, nothing_found}
 use Rattle.sg_locks.proofs.TableLaws.{session_cmp, session_total, held_cmp, held_total, dropped-table, others-dropped, released}
 use Rattle.sg_locks.proofs.Locks.release_all.Goals as goal
 
 pub loop-found-smaller : goal.loop-found-smaller
 loop-found-smaller g c =
-    let there = found_there session_cmp (held_cmp g.K.Ord.cmp) session_total c.args.s (held_total g.K.Ord.cmp g.met.K.Ord.total) (is_above (held_cmp g.K.Ord.cmp) None) c.in-Some.found c.loop-found.self-inside.by_session.pairs (sym c.next.ensures.first ∙ c.in-Some.is) in
+    let there = found_there session_cmp (held_cmp g.K.Ord.cmp) session_total c.args.s (held_total g.K.Ord.cmp g.met.K.Ord.total) (is_item_above (held_cmp g.K.Ord.cmp) None) c.in-Some.found c.loop-found.self-inside.by_session.pairs (sym c.next.ensures.first ∙ c.in-Some.is) in
     let less = c.remove.ensures.shorter there in
     omega (arith, less)
 

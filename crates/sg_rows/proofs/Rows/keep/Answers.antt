@@ -1,5 +1,5 @@
 use Rattle.std.proofs.Common.{sym, subst}
-use Rattle.sg_versions.specs.declared.version.End.TheVariants.{Keep}
+use Rattle.sg_versions.specs.declared.version.WritesEnd.TheVariants.{Keep}
 use Rattle.sg_rows.specs.Table.{AreSoundRows}
 use Rattle.sg_rows.proofs.SoundRows.{sound_settled}
 use Rattle.sg_rows.proofs.Rows.keep.Goals as goal

@@ -1,4 +1,4 @@
-use Rattle.sg_modes.specs.WordLaws.{members-AreSessions, bit_test}
+use Rattle.sg_modes.proofs.WordLaws.{members-AreSessions, bit_test}
 use Rattle.sg_modes.proofs.sets.Sessions.has.Goals as goal
 
 pub returns-clause-has : goal.returns-clause-has

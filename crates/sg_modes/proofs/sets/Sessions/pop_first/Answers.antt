@@ -1,5 +1,5 @@
 use Rattle.std.proofs.Common.{sym}
-use Rattle.sg_modes.specs.SessionLaws.{without_first}
+use Rattle.sg_modes.proofs.SessionLaws.{without_first}
 use Rattle.sg_modes.proofs.sets.Sessions.pop_first.Goals as goal
 
 pub returns-clause-rest : goal.returns-clause-rest

@@ -1,5 +1,10 @@
-use Rattle.sg_modes.specs.WordLaws.{members-without}
+use Rattle.std.proofs.lemmas.Nat.{and_le_l}
+use Rattle.sg_modes.proofs.WordLaws.{word_of-below}
+use Rattle.sg_modes.proofs.WordLaws.{members-without}
 use Rattle.sg_modes.proofs.sets.Sessions.without.Goals as goal
+
+pub invariant_of-result : goal.invariant_of-result
+invariant_of-result c = word_of-below _ (c.self.inside.bits) (and_le_l _ _) c.self.invariant.0
 
 pub returns : goal.returns
 returns c = rw (← c.self.view_is, c.number.ensures.number) (members-without c.self.inside.bits c.args.s c.number.ensures.range)

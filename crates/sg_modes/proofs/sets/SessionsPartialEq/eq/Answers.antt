@@ -1,5 +1,5 @@
 use Rattle.std.proofs.Common.{arith}
-use Rattle.sg_modes.specs.WordLaws.{word_of-members}
+use Rattle.sg_modes.proofs.WordLaws.{word_of-members}
 use Rattle.sg_modes.proofs.sets.SessionsPartialEq.eq.Goals as goal
 
 pub returns : goal.returns

@@ -1,7 +1,7 @@
 use Rattle.std.proofs.Common.{ℕ, List, [], false, filter, length, arith, ◌≡◌, ◌≢◌, ◌+◌, ◌<◌, ◌≤◌, ◌∙◌, sym, ap, subst, refl, eqb, eqb-true, eq-eqb}
-use Rattle.sg_modes.specs.BoolLaws.{clash}
+use Rattle.sg_modes.proofs.BoolLaws.{clash}
 use Rattle.sg_modes.specs.Sessions.{has_session, with_session}
-use Rattle.sg_modes.specs.WordLaws.{same_words}
+use Rattle.sg_modes.proofs.WordLaws.{same_words}
 use Rattle.sg_modes.specs.Words.{word_of}
 use Rattle.sg_modes.specs.Waits.{blockers_of, NoCycle, IsCycleSet}
 use Rattle.sg_modes.proofs.WaitLaws.{IsCycleSet-empty, IsCycleSet-none}

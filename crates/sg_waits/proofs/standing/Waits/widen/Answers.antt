@@ -1,5 +1,5 @@
 use Rattle.std.proofs.Common.{ℕ, List, false, filter, ◌≡◌, ◌∙◌, sym, ap, subst, refl}
-use Rattle.sg_modes.specs.BoolLaws.{clash}
+use Rattle.sg_modes.proofs.BoolLaws.{clash}
 use Rattle.sg_modes.specs.Sessions.{has_session}
 use Rattle.sg_modes.specs.Waits.{blockers_of}
 use Rattle.sg_waits.proofs.Finds.{first_none}

@@ -9,8 +9,8 @@ use Rattle.std.specs.Option.{SomeIff}
 use Rattle.std.specs.Int.{bit_at, bit_not, trailing_zeros}
 use Rattle.sg_modes.specs.Sessions.{IsSession, RisingAbove, AreSessions, has_session, with_session, without_session}
 use Rattle.sg_modes.specs.Words.{is_set, members_from, members, word_of}
-use Rattle.sg_modes.specs.BoolLaws.{true_or_false, clash, same_tests, or_left, ne-eqb, eqb-false, by_test}
-use Rattle.sg_modes.specs.SessionLaws.{RisingAbove-lower, has_session-below, same_sessions, has_session-with, AreSessions-with, has_session-without, AreSessions-without, RisingAbove-filter, has_session-filter}
+use Rattle.sg_modes.proofs.BoolLaws.{true_or_false, clash, same_tests, or_left, ne-eqb, eqb-false, by_test}
+use Rattle.sg_modes.proofs.SessionLaws.{RisingAbove-lower, has_session-below, same_sessions, has_session-with, AreSessions-with, has_session-without, AreSessions-without, RisingAbove-filter, has_session-filter}
 
 same_or_after : (i y : ℕ) → i ≤ y → (i ≡ y) ⊎ (suc i ≤ y)
 same_or_after i y l = grind arith
@@ -218,3 +218,7 @@ first_of word (Some s) h f = elim (zero_or_over word) [
 -- the word of ones has every session
 pub has_session-ones : (n : ℕ) → IsSession n → has_session (members (2 ^ 64 - 1)) n ≡ true
 has_session-ones n h = let l : 1 ≤ n = h.0 in let b : n ≤ 64 = h.1 in has_session-bit (2 ^ 64 - 1) n h ∙ eq-eqb (bit_at (2 ^ 64 - 1) (n - 1)) 1 (bit_at_ones 64 (n - 1) (omega arith))
+
+-- a word that is at most another one is the word of its members
+pub word_of-below : (word bound : ℕ) → word ≤ bound → bound < 2 ^ 64 → (word < 2 ^ 64) × (word_of (members word) ≡ word)
+word_of-below word bound le lt = let h : word < 2 ^ 64 = omega arith in (h, word_of-members word h)

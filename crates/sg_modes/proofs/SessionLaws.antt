@@ -2,7 +2,7 @@
 use Rattle.std.specs.Prelude.{◌≡◌, ℕ, ◌<◌, ◌≤◌, Bool, true, false, not, ◌&&◌, ◌||◌, ◌⊎◌, cond, List, [], ◌∷◌, eqb, ltb, refl, Some, slice_get, filter}
 use Rattle.std.proofs.Common.{sym, ap, ◌∙◌, subst, inl, inr, arith, eqb-true, eq-eqb}
 use Rattle.sg_modes.specs.Sessions.{IsSession, RisingAbove, AreSessions, has_session, with_session, without_session}
-use Rattle.sg_modes.specs.BoolLaws.{true_or_false, clash, either, or_left, or_swap, or_same, ne-eqb, eqb-false, ltb-lt, ltb-le, by_test}
+use Rattle.sg_modes.proofs.BoolLaws.{true_or_false, clash, either, or_left, or_swap, or_same, ne-eqb, eqb-false, ltb-lt, ltb-le, by_test}
 
 -- a set above a number is above each lower number
 pub RisingAbove-lower : (ns : List ℕ) (low least : ℕ) → RisingAbove low ns → least ≤ low → RisingAbove least ns
