@@ -6,8 +6,8 @@ use lib.Signed.{◌<ℤ◌, ◌≤ℤ◌, lt_z, le_z}
 use native.Mathlib.Nat.{mul-div_cancel_left}
 use Rattle.std.proofs.lemmas.Bool.{ne_eqb, false_from_ne_true}
 use Rattle.std.proofs.lemmas.Nat.{div_below}
-use Rattle.sg_plane.proofs.Ring.{sums, products}
-use Rattle.sg_plane.proofs.Comparisons.{le-from_true, true-from_le, lt-from_true, true-from_lt, left_true, right_true, both, either_true, or_left}
+use Rattle.sg_algebra.proofs.Ring.{sums, products}
+use Rattle.sg_algebra.proofs.Comparisons.{le-from_true, true-from_le, lt-from_true, true-from_lt, left_true, right_true, both, either_true, or_left}
 use Rattle.sg_cells.proofs.Spans.{edge_rises, in_column}
 use Rattle.sg_cells.proofs.Split.{Sits}
 use Rattle.sg_cells.specs.Cells.{Grid, Block, edge, box_at}
@@ -88,7 +88,7 @@ span_low closed low high h =
     both (le_z (low *ℤ pos 1) (low *ℤ pos 1)) _ (true-from_le _ _ l) (or_left (lt_z (low *ℤ pos 1) (high *ℤ pos 1)) _ (true-from_lt _ _ m))
   where
     times_one : (a b : ℤ) → a <ℤ b → (a *ℤ pos 1) <ℤ (b *ℤ pos 1)
-    times_one a b h = Rattle.sg_plane.proofs.Ring.lt-mul_right a b (pos 1) (omega (arith, sums)) h
+    times_one a b h = Rattle.sg_algebra.proofs.Ring.lt-mul_right a b (pos 1) (omega (arith, sums)) h
 
 pub corner_of : CellBox → Point
 corner_of b = record { x = b.xlow *ℤ pos 1; y = b.ylow *ℤ pos 1; n = 1; is_over = omega arith }

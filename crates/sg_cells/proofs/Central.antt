@@ -2,7 +2,7 @@
 use Rattle.std.proofs.Common.{ℕ, zero, suc, ◌≡◌, ◌+◌, ◌-◌, ◌<◌, ◌≤◌, arith, refl, sym, ap, ◌∙◌, subst, Bool, true, false, not, cond, eqb, List, [], ◌∷◌, ◌++◌, length, inl, inr, ◌⊎◌}
 use mathlib.Core.Bool.{◌&&◌, ◌||◌}
 use Rattle.std.proofs.lemmas.Bool.{eqb-true, eq-eqb, or_cases, or_left, or_right, true_from_ne_false}
-use Rattle.sg_plane.proofs.Comparisons.{left_true, right_true, same_test}
+use Rattle.sg_algebra.proofs.Comparisons.{left_true, right_true, same_test}
 use Rattle.sg_cells.proofs.Ids.{code_of_path}
 use Rattle.sg_cells.proofs.Split.{Sits, Sits-root, Sits-into, outer, one_child}
 use Rattle.sg_cells.proofs.Related.{ranges_related}
@@ -207,17 +207,17 @@ module _ (n : ℕ) (g : Grid) (f : Parts) (j : Look) (limit : ℕ) (s : Sees f j
   }
 
 -- ---- the central theorem
-related_of : (c : Cell) (qs : List Entry) (e : Entry) → Has qs e → related c e.0 ≡ true → related_any c (cells_of qs) ≡ true
+pub related_of : (c : Cell) (qs : List Entry) (e : Entry) → Has qs e → related c e.0 ≡ true → related_any c (cells_of qs) ≡ true
 related_of c [] e h r = absurd h
 related_of c (x ∷ xs) e (inl q) r = or_left (related c x.0) _ (subst (λ (e : Entry). related c e.0 ≡ true) (sym q) r)
 related_of c (x ∷ xs) e (inr h) r = or_right (related c x.0) _ (related_of c xs e h r)
 
-candidate_of : (n : ℕ) (rs qs : List Entry) (e : Entry) → Has rs e → in_pairs (ranges n (cells_of qs)) (id_of n e.0) ≡ true → is_candidate n rs qs ≡ true
+pub candidate_of : (n : ℕ) (rs qs : List Entry) (e : Entry) → Has rs e → in_pairs (ranges n (cells_of qs)) (id_of n e.0) ≡ true → is_candidate n rs qs ≡ true
 candidate_of n [] qs e h r = absurd h
 candidate_of n (x ∷ xs) qs e (inl q) r = or_left _ _ (subst (λ (e : Entry). in_pairs (ranges n (cells_of qs)) (id_of n e.0) ≡ true) (sym q) r)
 candidate_of n (x ∷ xs) qs e (inr h) r = or_right (in_pairs (ranges n (cells_of qs)) (id_of n x.0)) _ (candidate_of n xs qs e h r)
 
-codes_of : (n : ℕ) (g : Grid) (qs : List Entry) → length g.sides ≤ n → AreSides g.sides → ((e : Entry) → Has qs e → IsPath g.sides e.0) → AllCodes n (cells_of qs)
+pub codes_of : (n : ℕ) (g : Grid) (qs : List Entry) → length g.sides ≤ n → AreSides g.sides → ((e : Entry) → Has qs e → IsPath g.sides e.0) → AllCodes n (cells_of qs)
 codes_of n g [] l a h = tt
 codes_of n g (x ∷ xs) l a h = (code_of_path n g.sides x.0 l a (h x (inl refl)), codes_of n g xs l a (λ e w. h e (inr w)))
 

@@ -6,8 +6,8 @@ use lib.Signed.{◌≤ℤ◌, lt_z, le_z}
 use Rattle.sg_shape.specs.declared.cells.CellBox.{CellBox}
 use Rattle.sg_shape.specs.Sound.{coord_ok}
 use Rattle.sg_shape.specs.Boxes.{IsCellBox}
-use Rattle.sg_plane.proofs.Ring.{sums}
-use Rattle.sg_plane.proofs.Comparisons.{le-from_true, true-from_le, lt-from_true, le-from_false, left_true, right_true, both}
+use Rattle.sg_algebra.proofs.Ring.{sums}
+use Rattle.sg_algebra.proofs.Comparisons.{le-from_true, true-from_le, lt-from_true, le-from_false, left_true, right_true, both}
 use Rattle.sg_cells.specs.Cells.{Grid, Block, Cell, IsGrid, edge, box_at, box_of, block_from, root, front}
 use Rattle.sg_cells.specs.Grids.{HasNoBox}
 use Rattle.sg_cells.proofs.Split.{Sits}

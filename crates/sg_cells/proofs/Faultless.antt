@@ -4,8 +4,8 @@ use mathlib.Core.Bool.{◌&&◌}
 use lib.IntN.{ℤ, pos, negsuc, ◌+ℤ◌, ◌-ℤ◌, nat_abs}
 use lib.Signed.{◌<ℤ◌, ◌≤ℤ◌, lt_z, le_z}
 use Rattle.sg_shape.specs.Sound.{coord_ok}
-use Rattle.sg_plane.proofs.Ring.{sums}
-use Rattle.sg_plane.proofs.Comparisons.{le-from_true, true-from_le, lt-from_true, left_true, right_true, both}
+use Rattle.sg_algebra.proofs.Ring.{sums}
+use Rattle.sg_algebra.proofs.Comparisons.{le-from_true, true-from_le, lt-from_true, left_true, right_true, both}
 use Rattle.sg_cells.specs.declared.density.Density.{Density}
 use Rattle.sg_cells.specs.declared.density.Density.TheVariants.{Low, Medium, High}
 use Rattle.sg_cells.specs.declared.faults.GridFault.TheVariants.{CoordOut, BoxEmpty, CellsOut}

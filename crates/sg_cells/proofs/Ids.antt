@@ -3,7 +3,7 @@ use Rattle.std.proofs.Common.{ℕ, zero, suc, ◌≡◌, ◌+◌, ◌*◌, ◌<�
 use mathlib.Core.Bool.{◌&&◌, ◌||◌}
 use Rattle.std.proofs.lemmas.Bool.{cases_order, ltb-true, leb-true, eqb-true, lt-ltb, le-ltb, le-leb, lt-leb, eq-eqb, ne_eqb}
 use Rattle.std.proofs.lemmas.Nat.{mul-le}
-use Rattle.sg_plane.proofs.Comparisons.{left_true, right_true, both, same_test}
+use Rattle.sg_algebra.proofs.Comparisons.{left_true, right_true, both, same_test}
 use Rattle.sg_hilbert.specs.Curve.{four_to}
 use Rattle.sg_cells.specs.Cells.{Cell, IsPath, IsCode, AreSides, weight, filled, id_from, last_from, id_of, last_of, begins, contains, less}
 

@@ -2,10 +2,10 @@
 use Rattle.std.proofs.Common.{ℕ, zero, suc, ◌≡◌, ◌<◌, arith, refl, sym, ap, ◌∙◌, subst, Bool, true, false, not, cond, eqb, leb, List, [], ◌∷◌, ◌++◌, map, inl, inr, ◌⊎◌}
 use mathlib.Core.Bool.{◌&&◌, ◌||◌}
 use Rattle.std.proofs.lemmas.Bool.{eqb-true, eq-eqb, leb-true, le-leb, or_cases, or_left, or_right}
-use Rattle.sg_plane.proofs.Comparisons.{left_true, right_true, both, same_test}
+use Rattle.sg_algebra.proofs.Comparisons.{left_true, right_true, both, same_test}
 use Rattle.sg_cells.proofs.Ids.{contains_interval, id_injective}
 use Rattle.sg_cells.specs.Cells.{Cell, IsCode, begins, contains, id_of, last_of}
-use Rattle.sg_cells.specs.Ranges.{ancestors, is_above, fresh, alone, ranges_after, ranges, in_pairs, related, related_any}
+use Rattle.sg_cells.specs.Ranges.{ancestors, is_ancestor, fresh, alone, ranges_after, ranges, in_pairs, related, related_any}
 use Rattle.sg_cells.specs.Laws.{Has, IsDeep, AllCodes}
 
 clash : (b : Bool) → b ≡ true → b ≡ false → ⊥
@@ -80,11 +80,11 @@ pub above_contains : (n : ℕ) (a q : Cell) → Above n a q → contains a q ≡
 above_contains n [] q u = absurd u.is_deep
 above_contains n (d ∷ ds) q u = u.begins_it
 
-is_above_has : (c q : Cell) → is_above c q ≡ true → Has (ancestors q) c
-is_above_has [] [] e = absurd (cc)
-is_above_has [] (f ∷ fs) e = absurd (cc)
-is_above_has (d ∷ ds) [] e = absurd (cc)
-is_above_has (d ∷ ds) (f ∷ fs) e =
+pub is_ancestor_has : (c q : Cell) → is_ancestor c q ≡ true → Has (ancestors q) c
+is_ancestor_has [] [] e = absurd (cc)
+is_ancestor_has [] (f ∷ fs) e = absurd (cc)
+is_ancestor_has (d ∷ ds) [] e = absurd (cc)
+is_ancestor_has (d ∷ ds) (f ∷ fs) e =
     above_has (d ∷ ds) (f ∷ fs) tt (left_true (begins (d ∷ ds) (f ∷ fs)) _ e) (flip (begins (f ∷ fs) (d ∷ ds)) (right_true (begins (d ∷ ds) (f ∷ fs)) _ e))
   where
     flip : (b : Bool) → not b ≡ true → b ≡ false
@@ -119,23 +119,23 @@ in_alone n c (x ∷ xs) h k f e =
       | inr u ↦ inr (in_alone n c xs h k (λ a w. f a (inr w)) u)
     ]
 
-fresh_has : (p a : Cell) (as' : List Cell) → Has as' a → is_above a p ≡ false → Has (fresh p as') a
+pub fresh_has : (p a : Cell) (as' : List Cell) → Has as' a → is_ancestor a p ≡ false → Has (fresh p as') a
 fresh_has p a [] h n = absurd h
-fresh_has p a (x ∷ xs) h n = go (λ w. fresh_has p a xs w n) (is_above x p) refl h
+fresh_has p a (x ∷ xs) h n = go (λ w. fresh_has p a xs w n) (is_ancestor x p) refl h
   where
-    go : (Has xs a → Has (fresh p xs) a) → (b : Bool) → is_above x p ≡ b → Has (x ∷ xs) a → Has (cond b (fresh p xs) (x ∷ fresh p xs)) a
-    go ih true e (inl r) = absurd (clash (is_above a p) (subst (λ x. is_above x p ≡ true) r e) n)
+    go : (Has xs a → Has (fresh p xs) a) → (b : Bool) → is_ancestor x p ≡ b → Has (x ∷ xs) a → Has (cond b (fresh p xs) (x ∷ fresh p xs)) a
+    go ih true e (inl r) = absurd (clash (is_ancestor a p) (subst (λ x. is_ancestor x p ≡ true) r e) n)
     go ih true e (inr r) = ih r
     go ih false e (inl r) = inl r
     go ih false e (inr r) = inr (ih r)
 
-pub has_fresh : (p a : Cell) (as' : List Cell) → Has (fresh p as') a → (Has as' a) × (is_above a p ≡ false)
+pub has_fresh : (p a : Cell) (as' : List Cell) → Has (fresh p as') a → (Has as' a) × (is_ancestor a p ≡ false)
 has_fresh p a [] h = absurd h
-has_fresh p a (x ∷ xs) h = go (has_fresh p a xs) (is_above x p) refl h
+has_fresh p a (x ∷ xs) h = go (has_fresh p a xs) (is_ancestor x p) refl h
   where
-    go : (Has (fresh p xs) a → (Has xs a) × (is_above a p ≡ false)) → (b : Bool) → is_above x p ≡ b → Has (cond b (fresh p xs) (x ∷ fresh p xs)) a → (Has (x ∷ xs) a) × (is_above a p ≡ false)
+    go : (Has (fresh p xs) a → (Has xs a) × (is_ancestor a p ≡ false)) → (b : Bool) → is_ancestor x p ≡ b → Has (cond b (fresh p xs) (x ∷ fresh p xs)) a → (Has (x ∷ xs) a) × (is_ancestor a p ≡ false)
     go ih true e h = let r = ih h in (inr r.0, r.1)
-    go ih false e (inl r) = (inl r, subst (λ x. is_above x p ≡ false) r e)
+    go ih false e (inl r) = (inl r, subst (λ x. is_ancestor x p ≡ false) r e)
     go ih false e (inr h) = let r = ih h in (inr r.0, r.1)
 
 abbrev pair_test : ℕ → Cell → Cell → Bool
@@ -167,7 +167,7 @@ in_related n p c (q ∷ qs) h k a e =
     go ih (inr u) = next ih (or_cases (pair_test n q c) (in_pairs (ranges_after n q qs) (id_of n c)) u)
 
 -- related, so in a range, or above the cell before
-related_in : (n : ℕ) (p c : Cell) (qs : List Cell) → n < 256 → IsCode n c → AllCodes n qs → related_any c qs ≡ true → (in_pairs (ranges_after n p qs) (id_of n c) ≡ true) ⊎ (is_above c p ≡ true)
+related_in : (n : ℕ) (p c : Cell) (qs : List Cell) → n < 256 → IsCode n c → AllCodes n qs → related_any c qs ≡ true → (in_pairs (ranges_after n p qs) (id_of n c) ≡ true) ⊎ (is_ancestor c p ≡ true)
 related_in n p c [] h k a e = absurd (cc)
 related_in n p c (q ∷ qs) h k a e = go (λ u. related_in n q c qs h k a.1 u) (or_cases (related c q) (related_any c qs) e)
   where
@@ -178,7 +178,7 @@ related_in n p c (q ∷ qs) h k a e = go (λ u. related_in n q c qs h k a.1 u) (
     rest = (id_of n q, last_of n q) ∷ ranges_after n q qs
 
     Goal : Type 0
-    Goal = (in_pairs (front ++ rest) (id_of n c) ≡ true) ⊎ (is_above c p ≡ true)
+    Goal = (in_pairs (front ++ rest) (id_of n c) ≡ true) ⊎ (is_ancestor c p ≡ true)
 
     in_front : in_pairs front (id_of n c) ≡ true → Goal
     in_front u = inl (in_pairs-append front rest (id_of n c) ∙ or_left (in_pairs front (id_of n c)) _ u)
@@ -186,12 +186,12 @@ related_in n p c (q ∷ qs) h k a e = go (λ u. related_in n q c qs h k a.1 u) (
     in_rest : in_pairs rest (id_of n c) ≡ true → Goal
     in_rest u = inl (in_pairs-append front rest (id_of n c) ∙ or_right (in_pairs front (id_of n c)) _ u)
 
-    over : is_above c q ≡ true → Goal
-    over u = pick (is_above c p) refl
+    over : is_ancestor c q ≡ true → Goal
+    over u = pick (is_ancestor c p) refl
       where
-        pick : (b : Bool) → is_above c p ≡ b → Goal
+        pick : (b : Bool) → is_ancestor c p ≡ b → Goal
         pick true e = inr e
-        pick false e = in_front (alone_in n c (fresh p (ancestors q)) (fresh_has p c (ancestors q) (is_above_has c q u) e))
+        pick false e = in_front (alone_in n c (fresh p (ancestors q)) (fresh_has p c (ancestors q) (is_ancestor_has c q u) e))
 
     within : contains q c ≡ true → Goal
     within u = in_rest (or_left (pair_test n q c) _ (sym (contains_interval n q c h a.0 k) ∙ u))
@@ -200,11 +200,11 @@ related_in n p c (q ∷ qs) h k a e = go (λ u. related_in n q c qs h k a.1 u) (
     near true e u = within e
     near false e u = over (both (contains c q) (not (contains q c)) u (rw e refl))
 
-    go : (related_any c qs ≡ true → (in_pairs (ranges_after n q qs) (id_of n c) ≡ true) ⊎ (is_above c q ≡ true)) → (related c q ≡ true) ⊎ (related_any c qs ≡ true) → Goal
+    go : (related_any c qs ≡ true → (in_pairs (ranges_after n q qs) (id_of n c) ≡ true) ⊎ (is_ancestor c q ≡ true)) → (related c q ≡ true) ⊎ (related_any c qs ≡ true) → Goal
     go ih (inl u) = elim (or_cases (contains c q) (contains q c) u) [ inl v ↦ near (contains q c) refl v | inr v ↦ within v ]
     go ih (inr u) = elim (ih u) [ inl v ↦ in_rest (or_right (pair_test n q c) _ v) | inr v ↦ over v ]
 
-above_none : (c : Cell) → is_above c [] ≡ false
+pub above_none : (c : Cell) → is_ancestor c [] ≡ false
 above_none [] = refl
 above_none (d ∷ ds) = refl
 
@@ -212,4 +212,4 @@ pub ranges_related : (n : ℕ) (c : Cell) (qs : List Cell) → n < 256 → IsCod
 ranges_related n c qs h k a =
     same_test {s = in_pairs (ranges n qs) (id_of n c)} {t = related_any c qs}
     (in_related n [] c qs h k a)
-    (λ e. elim (related_in n [] c qs h k a e) [ inl u ↦ u | inr u ↦ absurd (clash (is_above c []) u (above_none c)) ])
+    (λ e. elim (related_in n [] c qs h k a e) [ inl u ↦ u | inr u ↦ absurd (clash (is_ancestor c []) u (above_none c)) ])

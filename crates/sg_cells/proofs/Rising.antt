@@ -2,12 +2,12 @@
 use Rattle.std.proofs.Common.{ℕ, zero, suc, ◌≡◌, ◌+◌, ◌*◌, ◌<◌, ◌≤◌, arith, refl, sym, ◌∙◌, subst, Bool, true, false, not, cond, leb, List, [], ◌∷◌, ◌++◌, map, inl, inr}
 use mathlib.Core.Bool.{◌&&◌}
 use Rattle.std.proofs.lemmas.Bool.{cases_lt, leb-true, le-leb}
-use Rattle.sg_plane.proofs.Comparisons.{right_true, both}
+use Rattle.sg_algebra.proofs.Comparisons.{right_true, both}
 use Rattle.sg_cells.proofs.Ids.{contains_interval}
 use Rattle.sg_cells.proofs.Related.{contains_trans, has_above, above_contains}
 use Rattle.sg_cells.proofs.Tessellates.{id-le-last_of}
 use Rattle.sg_cells.specs.Cells.{Cell, IsCode, weight, contains, id_from, id_of, last_of}
-use Rattle.sg_cells.specs.Ranges.{ancestors, is_above, fresh, alone, ranges_after, ranges}
+use Rattle.sg_cells.specs.Ranges.{ancestors, is_ancestor, fresh, alone, ranges_after, ranges}
 use Rattle.sg_cells.specs.Laws.{Has, IsDeep, Spread, Steps, AllCodes}
 
 -- the numbers of a list of cells rise from lo and stay below hi
@@ -44,14 +44,14 @@ climb_of n (d ∷ ds) c = lower (ancestors (d ∷ ds)) (ancestors_climb n 0 (d �
     lower [] h = omega arith
     lower (a ∷ as') h = (omega arith, h.1)
 
-fresh_climb : (f : Cell → ℕ) (p : Cell) (m lo : ℕ) (as' : List Cell) (hi : ℕ) → Climb f m as' hi → ((a : Cell) → Has as' a → is_above a p ≡ false → lo ≤ f a) → lo ≤ hi → Climb f lo (fresh p as') hi
+fresh_climb : (f : Cell → ℕ) (p : Cell) (m lo : ℕ) (as' : List Cell) (hi : ℕ) → Climb f m as' hi → ((a : Cell) → Has as' a → is_ancestor a p ≡ false → lo ≤ f a) → lo ≤ hi → Climb f lo (fresh p as') hi
 fresh_climb f p m lo [] hi h low l = l
 fresh_climb f p m lo (a ∷ as') hi h low l =
-    go (is_above a p) refl
+    go (is_ancestor a p) refl
     (fresh_climb f p (suc (f a)) lo as' hi h.1 (λ b w e. low b (inr w) e) l)
     (fresh_climb f p (suc (f a)) (suc (f a)) as' hi h.1 (λ b w e. climb_has f (suc (f a)) as' hi b h.1 w) (climb_le f (suc (f a)) as' hi h.1))
   where
-    go : (b : Bool) → is_above a p ≡ b → Climb f lo (fresh p as') hi → Climb f (suc (f a)) (fresh p as') hi → Climb f lo (cond b (fresh p as') (a ∷ fresh p as')) hi
+    go : (b : Bool) → is_ancestor a p ≡ b → Climb f lo (fresh p as') hi → Climb f (suc (f a)) (fresh p as') hi → Climb f lo (cond b (fresh p as') (a ∷ fresh p as')) hi
     go true e x y = x
     go false e x y = (low a (inl refl) e, y)
 
@@ -67,7 +67,7 @@ clash : (b : Bool) → b ≡ true → b ≡ false → ⊥
 clash b u v = cc
 
 -- An ancestor of a cell that is none of the cell before stands behind that one.
-above_next : (n : ℕ) (p a q : Cell) → n < 256 → IsCode n p → IsCode n a → IsCode n q → last_of n p < id_of n q → contains a q ≡ true → is_above a p ≡ false → last_of n p < id_of n a
+above_next : (n : ℕ) (p a q : Cell) → n < 256 → IsCode n p → IsCode n a → IsCode n q → last_of n p < id_of n q → contains a q ≡ true → is_ancestor a p ≡ false → last_of n p < id_of n a
 above_next n p a q r hp ha hq l c f =
     elim (cases_lt (last_of n p) (id_of n a)) [
       | inl h ↦ h
@@ -95,7 +95,7 @@ above_next n p a q r hp ha hq l c f =
 
 abbrev Low : ℕ → Cell → ℕ → List Cell → Type 0
 Low n p lo [] = Unit {0}
-Low n p lo (q ∷ qs) = (a : Cell) → IsCode n a → contains a q ≡ true → is_above a p ≡ false → lo ≤ id_of n a
+Low n p lo (q ∷ qs) = (a : Cell) → IsCode n a → contains a q ≡ true → is_ancestor a p ≡ false → lo ≤ id_of n a
 
 next_low : (n : ℕ) (p : Cell) (hi : ℕ) (qs : List Cell) → n < 256 → IsCode n p → AllCodes n qs → Spread n (suc (last_of n p)) hi qs → Low n p (suc (last_of n p)) qs
 next_low n p hi [] r hp a s = tt

@@ -6,8 +6,9 @@ use lib.Signed.{◌<ℤ◌, ◌≤ℤ◌, lt_z, le_z}
 use native.Mathlib.Nat.{mul-div-mul_right, mul-div_cancel, le-div_iff_mul-le, div-mul-le_self}
 use Rattle.std.proofs.lemmas.Nat.{mul-le}
 use Rattle.std.proofs.lemmas.Bool.{eq-eqb, ne_eqb, cases_eq, cases_order}
-use Rattle.sg_plane.proofs.Ring.{sums, nonneg_diff-mul, cmp, less, same, more}
-use Rattle.sg_plane.proofs.Comparisons.{le-from_true, true-from_le, lt-from_true, true-from_lt, left_true, right_true, both, either_true, or_left, or_right}
+use Rattle.sg_algebra.proofs.Ring.{sums, nonneg_diff-mul}
+use Rattle.sg_algebra.specs.Orders.{cmp, less, same, more}
+use Rattle.sg_algebra.proofs.Comparisons.{le-from_true, true-from_le, lt-from_true, true-from_lt, left_true, right_true, both, either_true, or_left, or_right}
 use Rattle.sg_cells.specs.Cells.{edge}
 use Rattle.sg_shape.specs.Boxes.{within}
 

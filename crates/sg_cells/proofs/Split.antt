@@ -2,7 +2,7 @@
 use Rattle.std.proofs.Common.{ℕ, zero, suc, ◌≡◌, ◌+◌, ◌*◌, ◌<◌, ◌≤◌, arith, refl, sym, ap, ◌∙◌, Bool, true, false, List, [], ◌∷◌, ◌++◌, inl, inr}
 use Rattle.std.proofs.lemmas.Bool.{cases_Bool, cases_eq, false_from_ne_true}
 use Rattle.std.proofs.lemmas.Nat.{mul-le}
-use Rattle.sg_plane.proofs.Comparisons.{left_true, right_true, both}
+use Rattle.sg_algebra.proofs.Comparisons.{left_true, right_true, both}
 use Rattle.sg_hilbert.proofs.Undo.{two_pos, spot_fits, spot_injective, spot_place}
 use Rattle.sg_cells.proofs.Spans.{in_column, one_column, inner_column, outer_column}
 use Rattle.sg_hilbert.specs.Curve.{two_to, four_to, spot_at, place_at}

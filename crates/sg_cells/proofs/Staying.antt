@@ -3,7 +3,7 @@ use Rattle.std.proofs.Common.{ℕ, zero, suc, ◌≡◌, ◌+◌, ◌-◌, ◌<�
 use Rattle.std.proofs.Math.Nat.{le-max_left, le-max_right}
 use Rattle.std.proofs.lemmas.Bool.{eq-eqb, eqb-true, le-leb, cases_lt}
 use Rattle.std.proofs.lemmas.List.{length-append}
-use Rattle.sg_plane.proofs.Comparisons.{left_true}
+use Rattle.sg_algebra.proofs.Comparisons.{left_true}
 use Rattle.sg_hilbert.specs.Curve.{four_to}
 use Rattle.sg_cells.specs.declared.marks.Mark.TheVariants.{Part}
 use Rattle.sg_cells.specs.Cells.{Grid, Cell, box_of, whole, split_of}

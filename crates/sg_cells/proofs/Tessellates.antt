@@ -3,7 +3,7 @@ use Rattle.std.proofs.Common.{ℕ, zero, suc, ◌≡◌, ◌+◌, ◌-◌, ◌<�
 use Rattle.std.proofs.lemmas.Bool.{false_from_ne_true, eqb-true, leb-true}
 use Rattle.std.proofs.lemmas.List.{length-append}
 use Rattle.std.proofs.lemmas.Nat.{mul-le}
-use Rattle.sg_plane.proofs.Comparisons.{left_true, right_true}
+use Rattle.sg_algebra.proofs.Comparisons.{left_true, right_true}
 use Rattle.sg_cells.proofs.Ids.{more, filled_is, id-le-last, four_small}
 use Rattle.sg_cells.proofs.Split.{children_split, box_hits-append}
 use Rattle.sg_hilbert.specs.Curve.{four_to}

@@ -9,13 +9,13 @@ ancestors [] = []
 ancestors (d ∷ []) = []
 ancestors (d ∷ e ∷ es) = (d ∷ []) ∷ map (λ a. d ∷ a) (ancestors (e ∷ es))
 
-abbrev pub is_above : Cell → Cell → Bool
-is_above c q = contains c q && not (contains q c)
+abbrev pub is_ancestor : Cell → Cell → Bool
+is_ancestor c q = contains c q && not (contains q c)
 
 -- those of a list that are no ancestors of the cell before
 abbrev pub fresh : Cell → List Cell → List Cell
 fresh p [] = []
-fresh p (a ∷ as') = cond (is_above a p) (fresh p as') (a ∷ fresh p as')
+fresh p (a ∷ as') = cond (is_ancestor a p) (fresh p as') (a ∷ fresh p as')
 
 abbrev pub alone : ℕ → List Cell → List (ℕ × ℕ)
 alone n [] = []

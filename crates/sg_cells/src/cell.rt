@@ -1,4 +1,4 @@
-ghost use Rattle.std.specs.Prelude.{◌≡◌, ◌≤◌, ◌<◌, ◌-◌, ◌++◌, [], ◌∷◌, length, slice_index, MatchOption};
+ghost use Rattle.std.specs.Prelude.{◌≡◌, ◌≤◌, ◌<◌, ◌-◌, ◌^◌, ◌++◌, [], ◌∷◌, length, slice_index, MatchOption};
 ghost use Rattle.sg_cells.specs.Cells.{IsCode, id_of, last_of, last_path, weight, contains, front};
 
 use std::marker::Model;
@@ -41,6 +41,15 @@ impl Cell {
         ensures { result ≡ id_of 4 self.now }
     {
         self.id
+    }
+
+    /// That the id has a byte for each place, for a proof that rests on it. It does nothing.
+    #[inline(always)]
+    pub fn in_bytes(&self)
+        ensures code { IsCode 4 self.now }
+        ensures id { id_of 4 self.now < 2 ^ 64 }
+    {
+        let _id = &self.id;
     }
 
     /// How far down the cell lies: 1 to 4, and 0 for cell 0.
@@ -98,6 +107,14 @@ impl Cell {
         Cell {
             id: self.id - level + filled + 4,
         }
+    }
+
+    /// The same cell, whose places are below 256.
+    pub(crate) fn coded(self) -> Cell
+        ensures same { result ≡ self }
+        ensures code { IsCode 4 self }
+    {
+        Cell { id: self.id }
     }
 
     /// The cell at a place within this one; of cell 0, the cell of level 1. The level is 0 to 3.

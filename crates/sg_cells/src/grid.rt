@@ -128,6 +128,15 @@ impl Grid {
         })
     }
 
+    /// That the box, the sides of the levels and the number of cells are within their limits, for a proof that
+    /// rests on it. It does nothing.
+    #[inline(always)]
+    pub fn in_limits(&self)
+        ensures { IsGrid self.now }
+    {
+        let _cells = &self.cells;
+    }
+
     /// How many cells a shape may have: 1 to 8192.
     pub fn cells(&self) -> u32
         ensures cells { result ≡ self.now.cells }

@@ -1,5 +1,7 @@
 ghost use Rattle.std.specs.Prelude.{◌≡◌, ◌<◌, ◌++◌, [], ◌∷◌, length, IsOk, OnOk, OnErr, slice_get};
+ghost use Rattle.sg_cells.specs.Laws.{AllCodes};
 ghost use Rattle.sg_cells.specs.Lists.{FollowsLast, IsApart};
+ghost use Rattle.sg_cells.specs.Ranges.{cells_of};
 
 use crate::cell::Cell;
 use crate::marks::Mark;
@@ -16,13 +18,15 @@ pub struct CellList {
 impl Model for CellList {
     ghost use Rattle.std.specs.Prelude.{List, ◌≤◌};
     ghost use Rattle.sg_cells.specs.Tess.{Entry};
+    ghost use Rattle.sg_cells.specs.Laws.{AllCodes};
     ghost use Rattle.sg_cells.specs.Lists.{IsApart};
+    ghost use Rattle.sg_cells.specs.Ranges.{cells_of};
 
     ghost Value = { List Entry };
 
     ghost view = { λ l. l.items.items };
 
-    ghost invariant = { λ l. IsApart l.items.items × (16 ≤ l.items.capacity) };
+    ghost invariant = { λ l. IsApart l.items.items × (16 ≤ l.items.capacity) × AllCodes 4 (cells_of l.items.items) };
 }
 
 impl CellList {
@@ -43,7 +47,7 @@ impl CellList {
         ensures err { OnErr result (self.new ≡ self.old) }
         ensures succeeds { length self.old < 16 → IsOk result }
     {
-        match self.items.push((cell, mark)) {
+        match self.items.push((cell.coded(), mark)) {
             Ok(()) => Ok(()),
             Err(_) => Err(AllocError),
         }
@@ -53,6 +57,7 @@ impl CellList {
     pub fn len(&self) -> usize
         ensures len { result ≡ length self.now }
         ensures apart { IsApart self.now }
+        ensures codes { AllCodes 4 (cells_of self.now) }
     {
         self.items.len()
     }
@@ -67,6 +72,14 @@ impl CellList {
         } else {
             None
         }
+    }
+
+    /// That the cells rise, none an ancestor of another, for a proof that rests on it. It does nothing.
+    #[inline(always)]
+    pub fn in_order(&self)
+        ensures { IsApart self.now }
+    {
+        let _items = &self.items;
     }
 
     /// All cells, in order.

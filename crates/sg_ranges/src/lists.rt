@@ -1,22 +1,26 @@
-ghost use Rattle.std.specs.Prelude.{◌≡◌, [], ◌∷◌, ◌++◌, length, slice_get, OnOk, OnErr};
+ghost use Rattle.std.specs.Prelude.{◌≡◌, [], ◌∷◌, ◌++◌, length, slice_get, OnOk, OnErr, IfErr};
+ghost use Rattle.sg_ranges.specs.Pairs.{AreRanges};
 
 use sg_cells::Cell;
-use std::alloc::{AllocError, Global};
+use sg_shape::{Back, Items};
+use std::alloc::Global;
 use std::marker::Model;
 
-/// Ranges of cells in the order of ids, each from its first cell to its last.
+/// Ranges of cells, each from its first cell to its last. They rise by id, and none overlaps another.
 #[derive(Drop)]
 pub struct Ranges {
-    pairs: Vec<(Cell, Cell)>,
+    pairs: Items<(Cell, Cell)>,
 }
 
 impl Model for Ranges {
     ghost use Rattle.std.specs.Prelude.{List};
-    ghost use Rattle.sg_ranges.specs.Pairs.{Pair};
+    ghost use Rattle.sg_ranges.specs.Pairs.{Pair, AreRanges};
 
     ghost Value = { List Pair };
 
-    ghost view = { λ list. list.pairs.items };
+    ghost view = { λ list. list.pairs };
+
+    ghost invariant = { λ list. AreRanges list.pairs };
 }
 
 impl Ranges {
@@ -25,17 +29,19 @@ impl Ranges {
         ensures { result ≡ [] }
     {
         Ranges {
-            pairs: Vec::new(alloc),
+            pairs: Items::new(alloc),
         }
     }
 
-    /// Puts the range last. Without memory for it the list stays as it was.
-    pub fn push(&mut self, first: Cell, last: Cell) -> Result<(), AllocError>
-        ensures ok { OnOk result (self.new ≡ self.old ++ (first, last) ∷ []) }
+    /// Puts a range last: its first cell is its last or stands before it, and both stand behind all other ranges.
+    /// Without memory for it the list stays as it was.
+    pub fn push(&mut self, range: (Cell, Cell)) -> Result<(), Back<(Cell, Cell)>>
+        requires { AreRanges (self.old ++ range ∷ []) }
+        ensures ok { OnOk result (self.new ≡ self.old ++ range ∷ []) }
         ensures err { OnErr result (self.new ≡ self.old) }
+        ensures back { IfErr result (λ back. back.item ≡ range) }
     {
-        self.pairs.push((first, last))?;
-        Ok(())
+        self.pairs.push(range)
     }
 
     /// How many ranges there are.
@@ -59,7 +65,8 @@ impl Ranges {
 
     /// All ranges, in order.
     pub fn as_slice(&self) -> &[(Cell, Cell)]
-        ensures { result.now ≡ self.now }
+        ensures all { result.now ≡ self.now }
+        ensures rising { AreRanges self.now }
     {
         self.pairs.as_slice()
     }

@@ -1,16 +1,25 @@
-use Rattle.std.proofs.Common.{◌≡◌, subst}
+use Rattle.std.proofs.Common.{◌≡◌, List, [], sym, subst}
 use Rattle.std.specs.Prelude.{IfOk}
-use Rattle.sg_cells.specs.Ranges.{ranges, cells_of}
-use Rattle.sg_ranges.specs.Pairs.{ids}
-use Rattle.sg_ranges.proofs.Rising.{list_rises, list_related}
+use Rattle.sg_cells.specs.Tess.{Entry}
+use Rattle.sg_cells.specs.Ranges.{cells_of}
+use Rattle.sg_ranges.specs.Pairs.{AreRanges, pairs_after}
+use Rattle.sg_ranges.proofs.Rising.{list_rises, list_ids, list_named, list_related, list_shared, list_rising}
 use Rattle.sg_ranges.proofs.queries.ranges.Goals as goal
 
-pub returns-clause-rise : goal.returns-clause-rise
-returns-clause-rise c =
-    list_rises c.ranges_of.result c.args.cells.now c.len-count.ensures.apart
-    (subst (λ es. IfOk c.ranges_of.result (λ pairs. ids pairs ≡ ranges 4 (cells_of es))) c.as_slice.ensures c.ranges_of.ensures)
+pub ranges_of-requires : goal.ranges_of-requires
+ranges_of-requires c = subst (λ (es : List Entry). AreRanges (pairs_after [] (cells_of es))) (sym c.as_slice.ensures) (list_rises c.args.cells.now c.len-count.ensures.apart c.len-count.ensures.codes)
 
-pub returns-clause-related : goal.returns-clause-related
-returns-clause-related c =
-    list_related c.ranges_of.result c.args.cells.now
-    (subst (λ es. IfOk c.ranges_of.result (λ pairs. ids pairs ≡ ranges 4 (cells_of es))) c.as_slice.ensures c.ranges_of.ensures)
+pub returns : goal.returns
+returns c =
+    let es = c.args.cells.now in
+    let apart = c.len-count.ensures.apart in
+    let codes = c.len-count.ensures.codes in
+    let r = c.ranges_of.result in
+    let are = subst (λ (es : List Entry). IfOk c.ranges_of.result (λ pairs. pairs ≡ pairs_after [] (cells_of es))) c.as_slice.ensures c.ranges_of.ensures in
+    record {
+      pairs = list_ids es apart codes r are;
+      named = list_named es apart codes r are;
+      related = list_related es apart codes r are;
+      shared = list_shared es apart codes r are;
+      rise = list_rising es apart codes r are;
+    }

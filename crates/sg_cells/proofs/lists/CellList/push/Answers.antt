@@ -1,7 +1,9 @@
-use Rattle.std.proofs.Common.{◌<◌, ◌++◌, [], ◌∷◌, List, sym, subst, arith}
-use Rattle.sg_cells.specs.Cells.{Cell, id_of, last_of}
+use Rattle.std.proofs.Common.{◌≡◌, ◌<◌, ◌++◌, [], ◌∷◌, List, sym, subst, arith}
+use Rattle.sg_cells.specs.Cells.{Cell, IsCode, id_of, last_of}
 use Rattle.sg_cells.specs.Tess.{Entry}
+use Rattle.sg_cells.specs.Laws.{AllCodes}
 use Rattle.sg_cells.specs.Lists.{FollowsLast, Later, IsApart}
+use Rattle.sg_cells.specs.Ranges.{cells_of}
 use Rattle.sg_cells.proofs.Tessellates.{id-le-last_of}
 use Rattle.sg_cells.proofs.lists.CellList.push.Goals as goal
 use Rattle.sg_cells.proofs.lists.CellList.push.Goals.{in-Ok, in-Err}
@@ -27,12 +29,24 @@ apart_push : (es : List Entry) (e : Entry) → IsApart es → Follows es e.0 →
 apart_push [] e a f = (tt, tt)
 apart_push (x ∷ xs) e a f = (later_push x xs e a.0 f.0, apart_push xs e a.1 f.1)
 
+codes_push : (es : List Entry) (e : Entry) → AllCodes 4 (cells_of es) → IsCode 4 e.0 → AllCodes 4 (cells_of (es ++ e ∷ []))
+codes_push [] e a h = (h, tt)
+codes_push (x ∷ xs) e a h = (a.0, codes_push xs e a.1 h)
+
 pub invariant_of-self : goal.invariant_of-self
-invariant_of-self c = (
-  elim c.match-push.branch [
-    | in-Ok w ↦ subst IsApart (sym w.in-Ok.ensures.ok) (apart_push c.self.inside.items.items (c.args.cell, c.args.mark) c.self.invariant.0
-        (follows_all c.self.inside.items.items c.args.cell c.self.invariant.0 (subst (λ es. FollowsLast es c.args.cell) (sym c.self.view_is) c.requires)))
-    | in-Err w ↦ subst (λ v. IsApart v.items) (sym w.in-Err.ensures.err) c.self.invariant.0
-  ],
-  (let k = c.push.ensures.capacity in let i = c.self.invariant.1 in omega arith),
-)
+invariant_of-self c =
+    let es = c.self.inside.items.items in
+    let cell = c.coded.result in
+    let same : cell ≡ c.args.cell = c.coded.ensures.same in
+    let code : IsCode 4 cell = subst (IsCode 4) (sym same) c.coded.ensures.code in
+    let follows : FollowsLast es cell = subst (FollowsLast es) (sym same) (subst (λ xs. FollowsLast xs c.args.cell) (sym c.self.view_is) c.requires) in (
+      elim c.match-push.branch [
+        | in-Ok w ↦ subst IsApart (sym w.in-Ok.ensures.ok) (apart_push es (cell, c.args.mark) c.self.invariant.0 (follows_all es cell c.self.invariant.0 follows))
+        | in-Err w ↦ subst (λ v. IsApart v.items) (sym w.in-Err.ensures.err) c.self.invariant.0
+      ],
+      (let k = c.push.ensures.capacity in let i = c.self.invariant.1 in omega arith),
+      elim c.match-push.branch [
+        | in-Ok w ↦ subst (λ xs. AllCodes 4 (cells_of xs)) (sym w.in-Ok.ensures.ok) (codes_push es (cell, c.args.mark) c.self.invariant.2 code)
+        | in-Err w ↦ subst (λ v. AllCodes 4 (cells_of v.items)) (sym w.in-Err.ensures.err) c.self.invariant.2
+      ],
+    )
