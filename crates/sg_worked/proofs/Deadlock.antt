@@ -19,7 +19,7 @@ use Rattle.std.specs.Int.Signed.{≤ℤ_refl}
 use Rattle.std.proofs.Math.Nat.{le_refl}
 use Rattle.sg_modes.specs.Sessions.{has_session, AreSessions}
 use Rattle.sg_modes.specs.Priorities.{priority_of}
-use Rattle.sg_modes.specs.Waits.{Chain, IsSteps, IsNext, IsCycleSet}
+use Rattle.sg_modes.specs.Waits.{Chain, IsSteps, IsNextMember, IsCycleSet}
 use Rattle.sg_modes.specs.Victims.{IsVictim}
 use Rattle.sg_trace.specs.Traces.{state}
 use Rattle.sg_trace.specs.Legal.{cost}
@@ -138,7 +138,7 @@ module _ (f : ℕ → List ℕ) (one : f 1 ≡ 2 ∷ []) (two : f 2 ≡ 1 ∷ []
     fewest = λ m l. some_wait f m 1 2 (λ e. omega arith) l;
   }
 
-  first_is_one : IsNext f 2 2 1
+  first_is_one : IsNextMember f 2 2 1
   first_is_one = record {
     steps = 1;
     waits = subst (λ xs. has_session xs 1 ≡ true) (sym two) refl;
@@ -147,7 +147,7 @@ module _ (f : ℕ → List ℕ) (one : f 1 ≡ 2 ∷ []) (two : f 2 ≡ 1 ∷ []
     least = λ z h l. let a = waited_by_two z h in omega arith;
   }
 
-  then_two : IsNext f 2 1 2
+  then_two : IsNextMember f 2 1 2
   then_two = record {
     steps = 0;
     waits = subst (λ xs. has_session xs 2 ≡ true) (sym one) refl;
