@@ -39,10 +39,8 @@ impl Words {
         ensures err { OnErr result (self.new ≡ self.old) }
         ensures back { IfErr result (λ back. back.item.items ≡ word.items) }
     {
-        match self.words.push(word) {
-            Ok(()) => Ok(()),
-            Err(failed) => Err(Back { item: failed.value }),
-        }
+        self.words.push(word)?;
+        Ok(())
     }
 
     /// How many words there are.

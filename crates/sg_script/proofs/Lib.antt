@@ -13,3 +13,4 @@ pub mod GridBack
 pub mod TurnsBack
 pub mod StepsBack
 pub mod ScriptBack
+pub mod FaultLines

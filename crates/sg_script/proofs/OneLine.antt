@@ -41,13 +41,13 @@ tail_inner b bs h = go (b == 10) h
     go false e = e
     go true e = cc
 
-first_of : (text rest : List ℕ) → list_all is_inner text ≡ true → lines (text ++ 10 ∷ rest) ≡ text ∷ lines rest
+pub first_of : (text rest : List ℕ) → list_all is_inner text ≡ true → lines (text ++ 10 ∷ rest) ≡ text ∷ lines rest
 first_of [] rest h = refl
 first_of (b ∷ bs) rest h =
     ap (λ (t : Bool). if t then ([] ∷ lines (bs ++ 10 ∷ rest)) else longer b (lines (bs ++ 10 ∷ rest))) (head_inner b bs h)
     ∙ ap (longer b) (first_of bs rest (tail_inner b bs h))
 
-ended : (text rest : List ℕ) → (text ++ 10 ∷ []) ++ rest ≡ text ++ 10 ∷ rest
+pub ended : (text rest : List ℕ) → (text ++ 10 ∷ []) ++ rest ≡ text ++ 10 ∷ rest
 ended [] rest = refl
 ended (b ∷ bs) rest = ap (λ (t : List ℕ). b ∷ t) (ended bs rest)
 

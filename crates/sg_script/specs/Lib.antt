@@ -9,3 +9,4 @@ pub mod Fits
 pub mod Reads
 pub mod Canonical
 pub mod Told
+pub mod Faults

@@ -3,6 +3,7 @@
 
 mod faults;
 mod fields;
+mod laws;
 mod lines;
 mod numbers;
 mod phrases;
@@ -19,6 +20,7 @@ mod words;
 mod writing;
 
 pub use faults::{ReadScript, ScriptFault, ScriptKind};
+pub use laws::tells_faults;
 pub use reading::read_script;
 pub use scripts::Script;
 pub use sessions::SessionScript;

@@ -204,9 +204,7 @@ fn add_statement(pending: &mut Option<Transaction>, statement: Statement) -> Res
 {
     match pending.take() {
         Some(mut transaction) => {
-            if transaction.push(statement).is_err() {
-                return Err(AllocError);
-            }
+            transaction.push(statement)?;
             *pending = Some(transaction);
             Ok(())
         }
@@ -224,8 +222,6 @@ fn add_transaction(
       sessions = with_transaction (record transaction { end = end }) script.old.sessions;
     }) }
 {
-    match script.transaction(transaction.with_end(end)) {
-        Ok(()) => Ok(()),
-        Err(_) => Err(AllocError),
-    }
+    script.transaction(transaction.with_end(end))?;
+    Ok(())
 }

@@ -155,7 +155,7 @@ impl Script {
         ensures ok { OnOk result (self.new ≡ record self.old { rows = self.old.rows ++ (key, shape) ∷ [] }) }
         ensures err { OnErr result (self.new ≡ self.old) }
     {
-        let _rising = self.rows.as_slice();
+        self.rows.in_order();
         self.rows.push(key, shape)
     }
 
@@ -190,7 +190,7 @@ impl Script {
         ensures err { OnErr result (self.new ≡ self.old) }
         ensures back { IfErr result (λ back. back.item ≡ transaction) }
     {
-        let _sound = transaction.as_slice();
+        transaction.all_sound();
         let last = self.sessions.as_slice().len() - 1;
         self.sessions[last].transactions.push(transaction)
     }

@@ -90,7 +90,7 @@ fn append_sides(grid: &Grid, out: &mut Vec<u8>) -> Result<(), AllocError>
     ensures text { OnOk result (out.new.items ≡ out.old.items ++ sides_text grid.now.sides) }
     ensures told { OnOk result (All IsSplit grid.now.sides) }
 {
-    let _levels = grid.cells();
+    grid.in_limits();
     out.extend_from_slice(density_word(grid.side(1)))?;
     out.extend_from_slice(density_word(grid.side(2)))?;
     out.extend_from_slice(density_word(grid.side(3)))?;

@@ -35,7 +35,7 @@ end_of (Ends at) e = (at, refl)
 end_of (Begins token rest) e = cc
 
 -- what gives this, and leaves tokens with these texts
-abbrev Leads : {X : Type 0} → Reading X → X → Texts → Type 0
+abbrev pub Leads : {X : Type 0} → Reading X → X → Texts → Type 0
 Leads r x bs = (rest : Tokens) × (r ≡ Ok (x, rest)) × (texts_of rest ≡ bs)
 
 -- ---- spots
@@ -44,18 +44,18 @@ spot-two : (tx ty : List ℕ) (x y : ℤ) (a b : ℕ) (rest : Tokens) → coordi
 unfolding spot number
 spot-two tx ty x y a b rest ex ey = rw (ex, ey) refl
 
-spot-leads : (ts : Tokens) (s : Spot) (front bs : Texts) → SpellsSpot front s → texts_of ts ≡ front ++ bs → Leads (spot ts) s bs
+pub spot-leads : (ts : Tokens) (s : Spot) (front bs : Texts) → SpellsSpot front s → texts_of ts ≡ front ++ bs → Leads (spot ts) s bs
 spot-leads ts s front bs h e =
     let a = front_of ts h.0 (h.1 ∷ bs) (e ∙ ap (λ (f : Texts). f ++ bs) h.2) in
     let b = front_of a.1 h.1 bs a.3 in
     (b.1, ap spot (a.2 ∙ ap (at_front a.0 h.0) b.2) ∙ spot-two h.0 h.1 s.x s.y a.0 b.0 b.1 h.3 h.4, b.3)
 
-step-from : (d : Draft) (ts rest : Tokens) (s : Spot) → spot ts ≡ Ok (s, rest) → step d ts ≡ after_spot (with_spot d s) rest
+pub step-from : (d : Draft) (ts rest : Tokens) (s : Spot) → spot ts ≡ Ok (s, rest) → step d ts ≡ after_spot (with_spot d s) rest
 unfolding step
 step-from d ts rest s e = rw e refl
 
 -- ---- what stands after a spot
-comma_next : (at : ℕ) (d : Draft) (ts : Tokens) → after_spot d (at_front at (codes ",") ts) ≡ Ok (next.Spot d, ts)
+pub comma_next : (at : ℕ) (d : Draft) (ts : Tokens) → after_spot d (at_front at (codes ",") ts) ≡ Ok (next.Spot d, ts)
 unfolding after_line_spot after_ring_spot separator
 comma_next at (draft.Line spots) ts = refl
 comma_next at (draft.Polygon rings ring) ts = refl
@@ -84,10 +84,10 @@ abbrev with_spots : Draft → List Spot → Draft
 with_spots d [] = d
 with_spots d (s ∷ ss) = with_spots (with_spot d s) ss
 
-abbrev go_on : ℕ → Next × Tokens → Reading Shape
+abbrev pub go_on : ℕ → Next × Tokens → Reading Shape
 go_on room = until_whole (λ further rest. spots room further rest)
 
-spots-step : (room : ℕ) (d : Draft) (ts : Tokens) → spots (suc room) d ts ≡ (step d ts >>= go_on room)
+pub spots-step : (room : ℕ) (d : Draft) (ts : Tokens) → spots (suc room) d ts ≡ (step d ts >>= go_on room)
 unfolding spots
 spots-step room d ts = refl
 
@@ -96,7 +96,7 @@ abbrev GoesOn : Reading Shape → Draft → ℕ → Texts → Type 0
 GoesOn r d k bs = (rest : Tokens) × (texts_of rest ≡ bs) × (r ≡ (after_spot d rest >>= go_on k))
 
 -- the texts of a comma, a spot and the rest
-unpacked : (front back bs : Texts) (all : Texts) → all ≡ codes "," ∷ (front ++ back) → all ++ bs ≡ codes "," ∷ (front ++ (back ++ bs))
+pub unpacked : (front back bs : Texts) (all : Texts) → all ≡ codes "," ∷ (front ++ back) → all ++ bs ≡ codes "," ∷ (front ++ (back ++ bs))
 unpacked front back bs all e = ap (λ (f : Texts). f ++ bs) e ∙ ap (λ (f : Texts). codes "," ∷ f) (append_assoc front back bs)
 
 spots-lead : (ss : List Spot) (room k : ℕ) (d : Draft) (s : Spot) (ts : Tokens) (front back bs : Texts) →
@@ -180,14 +180,14 @@ ring-opened rings ts bs k e =
     )
 
 -- the texts after a ring that is followed by another
-another : (all inner front back more : Texts) → all ≡ codes "," ∷ (front ++ more) → front ≡ codes "(" ∷ (inner ++ codes ")" ∷ []) →
+pub another : (all inner front back more : Texts) → all ≡ codes "," ∷ (front ++ more) → front ≡ codes "(" ∷ (inner ++ codes ")" ∷ []) →
     all ++ back ≡ codes "," ∷ codes "(" ∷ (inner ++ codes ")" ∷ (more ++ back))
 another all inner front back more e f =
     unpacked front more back all e
     ∙ ap (λ (xs : Texts). codes "," ∷ (xs ++ (more ++ back))) f
     ∙ ap (λ (xs : Texts). codes "," ∷ codes "(" ∷ xs) (append_assoc inner (codes ")" ∷ []) (more ++ back))
 
-inner_texts : (inner front back bs : Texts) → inner ≡ front ++ back → inner ++ bs ≡ front ++ (back ++ bs)
+pub inner_texts : (inner front back bs : Texts) → inner ≡ front ++ back → inner ++ bs ≡ front ++ (back ++ bs)
 inner_texts inner front back bs e = ap (λ (xs : Texts). xs ++ bs) e ∙ append_assoc front back bs
 
 rings-lead : (more before : List (List Spot)) (s : Spot) (ss : List Spot) (ts : Tokens) (room : ℕ) (front back bs : Texts) →
@@ -231,13 +231,13 @@ lone_shape-point : (at : ℕ) (w : List ℕ) (ts : Tokens) → is_word (codes "P
 unfolding lone_shape shape
 lone_shape-point at w ts e = rw e refl
 
-lone_shape-line : (at : ℕ) (w : List ℕ) (ts : Tokens) → is_word (codes "LINESTRING") w ≡ true → lone_shape (at_front at w ts) ≡ (line ts >>= (λ x. and_nothing x.0 x.1))
+pub lone_shape-line : (at : ℕ) (w : List ℕ) (ts : Tokens) → is_word (codes "LINESTRING") w ≡ true → lone_shape (at_front at w ts) ≡ (line ts >>= (λ x. and_nothing x.0 x.1))
 unfolding lone_shape shape
 lone_shape-line at w ts e =
     let point' : is_word (codes "POINT") w ≡ false = other_word (codes "LINESTRING") (codes "POINT") w e in
     rw (point', e) refl
 
-lone_shape-polygon : (at : ℕ) (w : List ℕ) (ts : Tokens) → is_word (codes "POLYGON") w ≡ true → lone_shape (at_front at w ts) ≡ (polygon ts >>= (λ x. and_nothing x.0 x.1))
+pub lone_shape-polygon : (at : ℕ) (w : List ℕ) (ts : Tokens) → is_word (codes "POLYGON") w ≡ true → lone_shape (at_front at w ts) ≡ (polygon ts >>= (λ x. and_nothing x.0 x.1))
 unfolding lone_shape shape
 lone_shape-polygon at w ts e =
     let point' : is_word (codes "POINT") w ≡ false = other_word (codes "POLYGON") (codes "POINT") w e in
@@ -262,11 +262,11 @@ point-bracket : (at bt : ℕ) (ts : Tokens) (s : Spot) (end : ℕ) → spot ts �
 unfolding point point_body mark
 point-bracket at bt ts s end e = rw e refl
 
-line-bracket : (at : ℕ) (ts : Tokens) → line (at_front at (codes "(") ts) ≡ spots most_spots (draft.Line []) ts
+pub line-bracket : (at : ℕ) (ts : Tokens) → line (at_front at (codes "(") ts) ≡ spots most_spots (draft.Line []) ts
 unfolding line line_body mark
 line-bracket at ts = refl
 
-polygon-bracket : (at bt : ℕ) (ts : Tokens) → polygon (at_front at (codes "(") (at_front bt (codes "(") ts)) ≡ spots most_spots (draft.Polygon [] []) ts
+pub polygon-bracket : (at bt : ℕ) (ts : Tokens) → polygon (at_front at (codes "(") (at_front bt (codes "(") ts)) ≡ spots most_spots (draft.Polygon [] []) ts
 unfolding polygon polygon_body mark
 polygon-bracket at bt ts = refl
 
@@ -298,7 +298,7 @@ two_words word ts h =
       second = empty.3;
     }
 
-empty-read : (k : Kind) (ts : Tokens) → Spells (texts_of ts) (shapes.Empty k) → lone_shape ts ≡ Ok (shapes.Empty k)
+pub empty-read : (k : Kind) (ts : Tokens) → Spells (texts_of ts) (shapes.Empty k) → lone_shape ts ≡ Ok (shapes.Empty k)
 empty-read kind.Point ts h =
     let t = two_words (word_of kind.Point) ts h in
     ap lone_shape t.is ∙ lone_shape-point t.at t.w (at_front t.bt t.v (Ends t.end)) t.first ∙ alone _ _ (t.end, point-empty t.bt t.end t.v t.second)
@@ -309,7 +309,7 @@ empty-read kind.Polygon ts h =
     let t = two_words (word_of kind.Polygon) ts h in
     ap lone_shape t.is ∙ lone_shape-polygon t.at t.w (at_front t.bt t.v (Ends t.end)) t.first ∙ alone _ _ (t.end, polygon-empty t.bt t.end t.v t.second)
 
-point-read : (s : Spot) (ts : Tokens) → Spells (texts_of ts) (shapes.Point s) → lone_shape ts ≡ Ok (shapes.Point s)
+pub point-read : (s : Spot) (ts : Tokens) → Spells (texts_of ts) (shapes.Point s) → lone_shape ts ≡ Ok (shapes.Point s)
 point-read s ts h =
     let inner = h.4 in
     let a = front_of ts h.0 h.1 h.2 in
@@ -333,7 +333,7 @@ line-read (s ∷ ss) ts h sound =
     ∙ alone _ _ (read.0, ap line b.2 ∙ line-bracket b.0 b.1 ∙ read.1)
 
 -- the texts of a polygon's first ring and the others
-first_ring : (all inner front back : Texts) → all ≡ front ++ back → front ≡ codes "(" ∷ (inner ++ codes ")" ∷ []) →
+pub first_ring : (all inner front back : Texts) → all ≡ front ++ back → front ≡ codes "(" ∷ (inner ++ codes ")" ∷ []) →
     all ++ codes ")" ∷ [] ≡ codes "(" ∷ (inner ++ codes ")" ∷ (back ++ codes ")" ∷ []))
 first_ring all inner front back e f =
     inner_texts all front back (codes ")" ∷ []) e

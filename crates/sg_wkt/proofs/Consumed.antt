@@ -21,7 +21,7 @@ use Rattle.sg_wkt.specs.Spelled.{Texts, texts_of, Further, Listed, Bracketed, Sp
 use Rattle.sg_wkt.proofs.Sound.{bind_ok}
 
 -- What was read, with the texts that were taken for it.
-abbrev Uses : {X : Type 0} → (Texts → X → Type 0) → Tokens → X × Tokens → Type 0
+abbrev pub Uses : {X : Type 0} → (Texts → X → Type 0) → Tokens → X × Tokens → Type 0
 Uses P ts x = (used : Texts) × (texts_of ts ≡ used ++ texts_of x.1) × P used x.0
 
 choice : {X : Type 0} (t : Bool) (r q : Result X WktFault) (x : X) → cond t r q ≡ Ok x → ((t ≡ true) × (r ≡ Ok x)) ⊎ ((t ≡ false) × (q ≡ Ok x))
@@ -33,7 +33,7 @@ first-uses : (ts : Tokens) (x : Token × Tokens) → first ts ≡ Ok x → texts
 first-uses (Ends at) x e = cc
 first-uses (Begins token rest) x e = let same : (token, rest) ≡ x = cc in ap (λ (y : Token × Tokens). y.0.bytes ∷ texts_of y.1) same
 
-is_byte : (byte : ℕ) (token : Token) → is_one byte token ≡ true → token.bytes ≡ byte ∷ []
+pub is_byte : (byte : ℕ) (token : Token) → is_one byte token ≡ true → token.bytes ≡ byte ∷ []
 is_byte byte token e = (bytes_eq-Decides token.bytes (byte ∷ [])).0 e
 
 mark-uses : (byte : ℕ) (ts rest : Tokens) → mark byte ts ≡ Ok rest → texts_of ts ≡ (byte ∷ []) ∷ texts_of rest
@@ -45,7 +45,7 @@ mark-uses byte ts rest e =
     (λ c. let k = c.1 in cc)
     (choice (is_one byte token.0.0) (Ok token.0.1) (fault token.0.0.at kinds.Punctuation) rest token.2)
 
-either_one : (a b : Bool) → (a || b) ≡ true → a ≡ false → b ≡ true
+pub either_one : (a b : Bool) → (a || b) ≡ true → a ≡ false → b ≡ true
 either_one true b e f = cc
 either_one false b e f = e
 
@@ -89,7 +89,7 @@ spot-uses ts x e =
 
 -- ---- what completes a draft
 -- these texts complete the draft to this shape: its spots go on as said here, and the brackets and further rings follow
-abbrev Completes : (Texts → List Spot → Type 0) → Draft → Texts → Shape → Type 0
+abbrev pub Completes : (Texts → List Spot → Type 0) → Draft → Texts → Shape → Type 0
 Completes On (draft.Line done) used s =
     (more : List Spot) × (inner : Texts) × (used ≡ inner ++ codes ")" ∷ []) × On inner more × (s ≡ shapes.Line (done ++ more))
 Completes On (draft.Polygon rings done) used s =
@@ -97,14 +97,14 @@ Completes On (draft.Polygon rings done) used s =
     × On inner more × Further SpellsPath back others × (s ≡ shapes.Polygon (rings ++ (done ++ more) ∷ others))
 
 -- beginning with a spot, and after one
-abbrev FromSpot : Draft → Texts → Shape → Type 0
+abbrev pub FromSpot : Draft → Texts → Shape → Type 0
 FromSpot = Completes (Listed SpellsSpot)
 
-abbrev AfterSpot : Draft → Texts → Shape → Type 0
+abbrev pub AfterSpot : Draft → Texts → Shape → Type 0
 AfterSpot = Completes (Further SpellsSpot)
 
 -- a spot of the draft, before what comes after it
-spot-completes : (d : Draft) (x : Spot) (front used : Texts) (s : Shape) → SpellsSpot front x → AfterSpot (with_spot d x) used s → FromSpot d (front ++ used) s
+pub spot-completes : (d : Draft) (x : Spot) (front used : Texts) (s : Shape) → SpellsSpot front x → AfterSpot (with_spot d x) used s → FromSpot d (front ++ used) s
 spot-completes (draft.Line done) x front used s h (more, inner, e, on, is) = (
   x ∷ more,
   front ++ inner,
@@ -128,22 +128,22 @@ listed-further : (inner : Texts) (more : List Spot) → Listed SpellsSpot inner 
 listed-further inner [] on = absurd on
 listed-further inner (x ∷ xs) (front, back, e, h, hs) = (front, back, ap (λ (t : Texts). codes "," ∷ t) e, h, hs)
 
-comma-completes : (d : Draft) (used : Texts) (s : Shape) → FromSpot d used s → AfterSpot d (codes "," ∷ used) s
+pub comma-completes : (d : Draft) (used : Texts) (s : Shape) → FromSpot d used s → AfterSpot d (codes "," ∷ used) s
 comma-completes (draft.Line done) used s (more, inner, e, on, is) =
     (more, codes "," ∷ inner, ap (λ (t : Texts). codes "," ∷ t) e, listed-further inner more on, is)
 comma-completes (draft.Polygon rings done) used s (more, others, inner, back, e, on, rest, is) =
     (more, others, codes "," ∷ inner, back, ap (λ (t : Texts). codes "," ∷ t) e, listed-further inner more on, rest, is)
 
-line-closes : (done : List Spot) → AfterSpot (draft.Line done) (codes ")" ∷ []) (shapes.Line done)
+pub line-closes : (done : List Spot) → AfterSpot (draft.Line done) (codes ")" ∷ []) (shapes.Line done)
 line-closes done = ([], [], refl, refl, ap shapes.Line (sym (append-nil done)))
 
 -- a ring's bracket, and the polygon's
-polygon-closes : (rings : List (List Spot)) (ring : List Spot) → AfterSpot (draft.Polygon rings ring) (codes ")" ∷ codes ")" ∷ []) (shapes.Polygon (rings ++ ring ∷ []))
+pub polygon-closes : (rings : List (List Spot)) (ring : List Spot) → AfterSpot (draft.Polygon rings ring) (codes ")" ∷ codes ")" ∷ []) (shapes.Polygon (rings ++ ring ∷ []))
 polygon-closes rings ring =
     ([], [], [], [], refl, refl, refl, ap (λ (r : List Spot). shapes.Polygon (rings ++ r ∷ [])) (sym (append-nil ring)))
 
 -- a ring's bracket, a comma, a bracket, and a further ring
-ring-completes : (rings : List (List Spot)) (ring : List Spot) (used : Texts) (s : Shape) → FromSpot (draft.Polygon (rings ++ ring ∷ []) []) used s →
+pub ring-completes : (rings : List (List Spot)) (ring : List Spot) (used : Texts) (s : Shape) → FromSpot (draft.Polygon (rings ++ ring ∷ []) []) used s →
     AfterSpot (draft.Polygon rings ring) (codes ")" ∷ codes "," ∷ codes "(" ∷ used) s
 ring-completes rings ring used s (more, others, inner, back, e, on, rest, is) = (
   [],

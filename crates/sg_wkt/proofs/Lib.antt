@@ -9,3 +9,12 @@ pub mod Consumed
 pub mod LawProofs
 pub mod Sound
 pub mod Turns
+pub mod FaultStates
+pub mod FaultPaths
+pub mod FaultSteps
+pub mod FaultEnds
+pub mod FaultTold
+pub mod FaultWords
+pub mod FaultMild
+pub mod TokenPlaces
+pub mod FaultLaws

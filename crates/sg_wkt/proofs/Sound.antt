@@ -297,7 +297,7 @@ sound_polygon_text ts = sound_or_empty kind.Polygon (polygon_body ts) (after_emp
     let ring = bind_ok (mark 40 opened.0) _ x opened.2 in
     sound_spots most_spots (draft.Polygon [] []) ring.0 Fits-polygon x ring.2)
 
-sound_shape : (ts : Tokens) → IsSoundReading (shape ts)
+pub sound_shape : (ts : Tokens) → IsSoundReading (shape ts)
 unfolding shape
 sound_shape ts x e =
     let step = bind_ok (first ts) _ x e in
@@ -305,7 +305,7 @@ sound_shape ts x e =
     (sound_choice _ (line step.0.1) _ (sound_line_text step.0.1)
     (sound_choice _ (polygon step.0.1) _ (sound_polygon_text step.0.1) (sound_fault step.0.0.at kinds.Keyword))) x step.2
 
-nothing_after : (s : Shape) (ts : Tokens) (t : Shape) → and_nothing s ts ≡ Ok t → s ≡ t
+pub nothing_after : (s : Shape) (ts : Tokens) (t : Shape) → and_nothing s ts ≡ Ok t → s ≡ t
 nothing_after s (Ends at) t e = cc
 nothing_after s (Begins token rest) t e = cc
 

@@ -1,5 +1,5 @@
 -- What holds between reading and writing.
-use Rattle.std.specs.Prelude.{◌≡◌, ◌↔◌, ℕ, nat_le, Bool, ◌&&◌, IsTrue, List, Ok, Contains}
+use Rattle.std.specs.Prelude.{◌≡◌, ◌↔◌, ℕ, nat_le, Bool, ◌&&◌, IsTrue, List, Ok, Err, Contains}
 use Rattle.std.specs.List.{list_all}
 use Rattle.sg_shape.specs.declared.shapes.Shape.{Shape}
 use Rattle.sg_shape.specs.Sound.{IsSound}
@@ -7,6 +7,8 @@ use Rattle.sg_wkt.specs.Tokens.{tokens}
 use Rattle.sg_wkt.specs.Grammar.{shape_in}
 use Rattle.sg_wkt.specs.Spelled.{Spells, texts_of}
 use Rattle.sg_wkt.specs.Canonical.{canonical}
+use Rattle.sg_wkt.specs.declared.faults.WktFault.{WktFault}
+use Rattle.sg_wkt.specs.Faults.{IsFault}
 
 -- what was written is read as the same shape
 abbrev pub ReadsBack : Type 0
@@ -35,3 +37,7 @@ ReadsSound = (text : List ℕ) (s : Shape) → shape_in text ≡ Ok s → IsSoun
 -- a text is read exactly where its tokens spell a sound shape, and as that shape
 abbrev pub ReadsExactly : Type 0
 ReadsExactly = (text : List ℕ) (s : Shape) → shape_in text ≡ Ok s ↔ (Spells (texts_of (tokens text)) s × IsSound s)
+
+-- the fault of a text, by its own words
+abbrev pub TellsFaults : Type 0
+TellsFaults = (text : List ℕ) (f : WktFault) → shape_in text ≡ Err f → IsFault text f

@@ -4,4 +4,5 @@ pub mod Grammar
 pub mod Cursors
 pub mod Canonical
 pub mod Spelled
+pub mod Faults
 pub mod Laws

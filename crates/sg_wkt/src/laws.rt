@@ -1,6 +1,6 @@
 //! What holds between reading and writing, for all sound shapes.
 
-ghost use Rattle.sg_wkt.specs.Laws.{IsOneLine, IsPrintable, ReadsBack, ReadsExactly, ReadsSound, TellsApart};
+ghost use Rattle.sg_wkt.specs.Laws.{IsOneLine, IsPrintable, ReadsBack, ReadsExactly, ReadsSound, TellsApart, TellsFaults};
 
 /// What `write_wkt` appends for a sound shape, `read_wkt` reads as that shape.
 pub fn reads_back()
@@ -26,4 +26,9 @@ pub fn reads_sound()
 /// A text is read exactly where its tokens spell a sound shape, and as that shape.
 pub fn reads_exactly()
     ensures { ReadsExactly }
+{}
+
+/// Each fault that a text is told stands at a token of which its row of the table holds, or at the text's end.
+pub fn tells_faults()
+    ensures { TellsFaults }
 {}

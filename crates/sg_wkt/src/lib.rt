@@ -14,6 +14,6 @@ mod tokens;
 mod writing;
 
 pub use faults::{ReadShape, WktFault, WktKind};
-pub use laws::{is_one_line, reads_back, reads_exactly, reads_sound, tells_apart};
+pub use laws::{is_one_line, reads_back, reads_exactly, reads_sound, tells_apart, tells_faults};
 pub use reading::read_wkt;
 pub use writing::write_wkt;

@@ -1,6 +1,7 @@
 ghost use Rattle.std.specs.Prelude.{◌≡◌, IfOk};
 ghost use Rattle.sg_shape.specs.Sound.{IsSound};
 ghost use Rattle.sg_wkt.specs.Cursors.{Gives, Reads, left};
+ghost use Rattle.sg_wkt.specs.Faults.{IsFault, OnFault};
 ghost use Rattle.sg_wkt.specs.Grammar.{Answers, line, lone_shape, point, polygon, shape, shape_in};
 
 use crate::drafts::{Draft, spots};
@@ -12,9 +13,10 @@ use std::alloc::Global;
 
 /// The shape that a text spells, else the text's first fault from the left. The words are read in either
 /// case, numbers have any length and stand for whole numbers alone. It takes time in proportion to the
-/// text. `Ok` is sound.
+/// text. `Ok` is sound. The fault's token alone, after those before it, is why the text isn't read.
 pub fn read_wkt(alloc: Global, text: &[u8]) -> Result<Shape, ReadShape>
     ensures answer { Answers result (shape_in text.now) }
+    ensures fault { OnFault result (IsFault text.now) }
     ensures sound { IfOk result IsSound }
 {
     lone_shape(alloc, Cursor::new(text))

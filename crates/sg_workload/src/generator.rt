@@ -57,10 +57,8 @@ fn box_at(alloc: Global, x: u32, y: u32, width: u32, height: u32) -> Result<Shap
     ring.push(spot_at(x, y + height))?;
     ring.push(spot_at(x, y))?;
     let mut rings = Rings::new(alloc);
-    match rings.push(ring) {
-        Ok(()) => Ok(Shape::Polygon(rings)),
-        Err(_) => Err(AllocError),
-    }
+    rings.push(ring)?;
+    Ok(Shape::Polygon(rings))
 }
 
 /// The spot with these coordinates.

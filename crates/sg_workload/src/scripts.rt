@@ -116,10 +116,8 @@ fn add(made: &mut Transaction, statement: Statement) -> Result<(), AllocError>
     requires { IsSoundStatement statement }
     ensures { OnOk result (made.new ≡ record made.old { statements = made.old.statements ++ statement ∷ [] }) }
 {
-    match made.push(statement) {
-        Ok(()) => Ok(()),
-        Err(_) => Err(AllocError),
-    }
+    made.push(statement)?;
+    Ok(())
 }
 
 /// Gives the last session, which has to be there, a further transaction.
@@ -127,8 +125,6 @@ fn add_transaction(script: &mut Script, made: Transaction) -> Result<(), AllocEr
     requires { script.old.sessions ≢ [] }
     ensures { OnOk result (script.new ≡ record script.old { sessions = with_transaction made script.old.sessions }) }
 {
-    match script.transaction(made) {
-        Ok(()) => Ok(()),
-        Err(_) => Err(AllocError),
-    }
+    script.transaction(made)?;
+    Ok(())
 }

@@ -6,5 +6,5 @@ use Rattle.sg_script.proofs.scripts.Script.row.Goals as goal
 
 pub push-requires-clause-above : goal.push-requires-clause-above
 push-requires-clause-above c =
-    rising_push _ _ c.as_slice-rising.ensures.rows.rising
+    rising_push _ _ c.in_order.ensures.rising
     (subst (λ (p : Plan). above_all (keys_of p.rows) ≤ c.args.key) (sym c.self.view_is) c.requires.above)

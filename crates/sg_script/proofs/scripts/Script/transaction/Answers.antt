@@ -15,7 +15,7 @@ invariant_of-self c =
       rising = subst IsRising same c.self.invariant.rising;
       sound =
           sound_pushed c.self.inside.sessions.items _ c.index_mut.result.now c.push.new.self c.args.transaction c.push.result
-          c.self.invariant.sound (last_within c.self.inside.sessions.items _ some (ap length c.as_slice.ensures.value)) c.index_mut.ensures.value c.as_slice-sound.ensures.sound
+          c.self.invariant.sound (last_within c.self.inside.sessions.items _ some (ap length c.as_slice.ensures.value)) c.index_mut.ensures.value c.all_sound.ensures
           c.push.ensures.ok c.push.ensures.err;
       turns = subst (λ (ns : List ℕ). IsOrderOf ns c.self.inside.order) same c.self.invariant.turns;
     }
