@@ -1,4 +1,4 @@
-ghost use Rattle.std.specs.Prelude.{◌≡◌, ◌+◌, ◌<◌, ◌≤◌, List, ℕ, length, vec_len, IfOk, IfSome, IsErrOf};
+ghost use Rattle.std.specs.Prelude.{◌≡◌, ◌+◌, ◌<◌, ◌≤◌, List, ℕ, length, vec_len, IfOk, IfSome, IsErrOf, OnOk};
 ghost use Rattle.std.specs.Io.KnownBytes.{Consumes, IsAtEnd};
 ghost use Rattle.sg_io.specs.Causes.{Rose};
 
@@ -28,13 +28,15 @@ pub enum ReadEnd {
 
 /// Reads all that is left of a source, at most [`READ_LIMIT`] bytes.
 ///
-/// It stops at the first fault, and at the first byte past the limit. What was read until then is
-/// gone, also where there is no memory for it: it is the front of what was left.
+/// It stops at the first fault, and at the first byte past the limit: so a source with more bytes
+/// than that never ends in `Ok`. What was read until then is gone, also where there is no memory
+/// for it: it is the front of what was left.
 pub fn read_all<S: Source>(alloc: Global, source: &mut S) -> Result<Vec<u8>, ReadEnd>
     // All that was left, to the end.
     ensures all { IfOk result (λ bytes. Consumes (S.left source.old) (S.left source.new) bytes.items) }
     ensures end { IfOk result (λ _. IsAtEnd (S.left source.new)) }
     ensures within { IfOk result (λ bytes. vec_len bytes ≤ READ_LIMIT) }
+    ensures few { OnOk result (IfSome (S.left source.old) (λ bytes. length bytes ≤ READ_LIMIT)) }
 
     // Why it stopped before the end.
     ensures fault { IsErrOf result ReadEnd.Fault → Rose (S.faults source.old) (S.faults source.new) }

@@ -1,30 +1,51 @@
 -- A loop over statements.
-use Rattle.std.proofs.Common.{◌≡◌, ℕ, ◌+◌, ◌<◌, List, [], ◌∷◌, ◌++◌, length, drop, get_or, refl, sym, ap, ◌∙◌, subst, add-one, drop-cons, suc, append_assoc, append-nil}
+use Rattle.std.proofs.Common.{◌≡◌, ℕ, ◌+◌, ◌<◌, ◌≤◌, List, [], ◌∷◌, ◌++◌, length, take, drop, get_or, refl, sym, ap, ◌∙◌, subst, take_all, take-append-drop}
+use Rattle.std.proofs.lemmas.List.{take_more}
 use Rattle.sg_plain.specs.declared.statements.Statement.{Statement}
 use Rattle.sg_plain.specs.declared.statements.Answer.{Answer}
 use Rattle.sg_plain.specs.Rows.{Rows}
-use Rattle.sg_plain.specs.Replies.{effect}
-use Rattle.sg_plain.specs.Serial.{Entry, ExecutesBy, SerialBy}
+use Rattle.sg_plain.specs.Replies.{PlainReply, effect}
+use Rattle.sg_plain.specs.Serial.{Entry, ExecutesBy, SerialBy, StopsAfterFront}
 
--- whatever the rest answers from here completes the answers so far
-pub record Going (Allows : Rows → Statement → Answer → Type 0) (old now : Rows) (all rest : List Statement) (answers : List Answer) : Type 0 where
-  pub complete : (more : List Answer) (new : Rows) → ExecutesBy Allows now rest more new → ExecutesBy Allows old all (answers ++ more) new
+-- the first n statements were executed
+pub record HasExecuted (Allows : Rows → Statement → Answer → Type 0) (old now : Rows) (all : List Statement) (n : ℕ) (answers : List Answer) : Type 0 where
+  pub executed : ExecutesBy Allows old (take n all) answers now
 
 module _ (Allows : Rows → Statement → Answer → Type 0) where
-  pub Going-step : (old before now : Rows) (all : List Statement) (i : ℕ) (s : Statement) (a : Answer) (answers longer : List Answer) →
-      i < length all → s ≡ get_or all i s → Allows before s a → now ≡ effect s a before → longer ≡ answers ++ a ∷ [] →
-      Going Allows old before all (drop i all) answers → Going Allows old now all (drop (i + 1) all) longer
-  Going-step old before now all i s a answers longer h e allows leaves pushed going =
-      let ahead : drop i all ≡ s ∷ drop (i + 1) all = rw add-one (drop-cons all i s h ∙ ap (λ (r : Statement). r ∷ drop (suc i) all) (sym e)) in
-      let here : Going Allows old before all (s ∷ drop (i + 1) all) answers = subst (λ (rest : List Statement). Going Allows old before all rest answers) ahead going in
-      record {
-        complete = λ more new x. rw (pushed, append_assoc) (here.complete (a ∷ more) new (allows, subst (λ (rows : Rows). ExecutesBy Allows rows (drop (i + 1) all) more new) leaves x));
-      }
+  -- one statement more
+  ExecutesBy-more : (old before now : Rows) (statements : List Statement) (answers : List Answer) (s : Statement) (a : Answer) →
+      ExecutesBy Allows old statements answers before → Allows before s a → now ≡ effect s a before → ExecutesBy Allows old (statements ++ s ∷ []) (answers ++ a ∷ []) now
+  ExecutesBy-more old before now [] [] s a h allows leaves =
+      (subst (λ (rows : Rows). Allows rows s a) h allows, leaves ∙ ap (λ (rows : Rows). effect s a rows) h)
+  ExecutesBy-more old before now (x ∷ statements) (b ∷ answers) s a h allows leaves =
+      (h.0, ExecutesBy-more (effect x b old) before now statements answers s a h.1 allows leaves)
+  ExecutesBy-more old before now [] (b ∷ answers) s a h allows leaves = absurd h
+  ExecutesBy-more old before now (x ∷ statements) [] s a h allows leaves = absurd h
 
-  pub Going-end : (old now : Rows) (all rest : List Statement) (answers : List Answer) → rest ≡ [] → Going Allows old now all rest answers → ExecutesBy Allows old all answers now
-  Going-end old now all rest answers e going =
-      let x : ExecutesBy Allows now rest [] now = subst (λ (r : List Statement). ExecutesBy Allows now r [] now) (sym e) refl in
-      rw append-nil at (going.complete [] now x)
+  pub HasExecuted-more : (old before now : Rows) (all : List Statement) (i : ℕ) (s : Statement) (a : Answer) (answers longer : List Answer) →
+      i < length all → s ≡ get_or all i s → Allows before s a → now ≡ effect s a before → longer ≡ answers ++ a ∷ [] →
+      HasExecuted Allows old before all i answers → HasExecuted Allows old now all (i + 1) longer
+  HasExecuted-more old before now all i s a answers longer h e allows leaves pushed so_far =
+      let ahead : take (i + 1) all ≡ take i all ++ s ∷ [] = take_more all i s h ∙ ap (λ (x : Statement). take i all ++ x ∷ []) (sym e) in
+      record { executed = rw (ahead, pushed) (ExecutesBy-more old before now (take i all) answers s a so_far.executed allows leaves) }
+
+  pub HasExecuted-all : (old now : Rows) (all : List Statement) (n : ℕ) (answers : List Answer) → length all ≤ n → HasExecuted Allows old now all n answers → ExecutesBy Allows old all answers now
+  HasExecuted-all old now all n answers over so_far = subst (λ (xs : List Statement). ExecutesBy Allows old xs answers now) (take_all n all over) so_far.executed
+
+-- where it stops, the rows are those after a front: of the n statements that were executed, or of one more
+pub front_of : (old before now : Rows) (statements : List Statement) (n : ℕ) (answers : List Answer) → now ≡ before → HasExecuted PlainReply old before statements n answers → StopsAfterFront old statements now
+front_of old before now statements n answers same so_far = record {
+  front = take n statements;
+  rest = drop n statements;
+  answers = answers;
+  all = take-append-drop n statements;
+  executed = rw same so_far.executed;
+}
+
+pub front_more : (old before now : Rows) (statements : List Statement) (i : ℕ) (s : Statement) (a : Answer) (answers : List Answer) →
+    i < length statements → s ≡ get_or statements i s → PlainReply before s a → now ≡ effect s a before → HasExecuted PlainReply old before statements i answers → StopsAfterFront old statements now
+front_more old before now statements i s a answers h e allows leaves so_far =
+    front_of old now now statements (i + 1) (answers ++ a ∷ []) refl (HasExecuted-more PlainReply old before now statements i s a answers (answers ++ a ∷ []) h e allows leaves refl so_far)
 
 -- what is allowed in a narrower sense is allowed
 module _ (Narrow Wide : Rows → Statement → Answer → Type 0) (widen : (rows : Rows) (s : Statement) (a : Answer) → Narrow rows s a → Wide rows s a) where

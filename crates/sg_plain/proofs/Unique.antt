@@ -10,7 +10,7 @@ use Rattle.sg_plain.specs.declared.statements.Answer.{Answer}
 use Rattle.sg_plain.specs.declared.statements.Answer.TheVariants.{Inserted, Duplicate, Done, Missing, Absent, Found, Keys, Deleted}
 use Rattle.sg_plain.specs.declared.statements.Answer.TheVariants as answers
 use Rattle.sg_plain.specs.Rows.{Rows, AreRows, shape_at, IsKeysWith, CoversKeysWith}
-use Rattle.sg_plain.specs.Replies.{Means, Reply, IsScan, looked_at, effect}
+use Rattle.sg_plain.specs.Replies.{Means, PlainReply, IsScan, looked_at, effect}
 use Rattle.sg_plain.specs.Sat.{Satisfies, Meeting, IsSoundStatement}
 use Rattle.sg_plain.proofs.Collects.{IsKeysWith-unique, CoversKeysWith-from_exact}
 use Rattle.sg_plain.proofs.Lookups.{AreRows-put, AreRows-without_key, AreRows-without_keys}
@@ -70,33 +70,33 @@ scanned rows q c s r ks h =
     let each_refined : r ≡ looked_at q.shape rows = h.each_refined ∙ h.all in
     record { keys = ks; is = cc; exact = h.keys }
 
-plan_replies : (rows : Rows) (q : Query) (a : Answer) → Reply rows (statements.Plan q) a → Scanned rows q a
+plan_replies : (rows : Rows) (q : Query) (a : Answer) → PlainReply rows (statements.Plan q) a → Scanned rows q a
 plan_replies rows q (answers.Plan c s r ks) h = scanned rows q c s r ks h
 plan_replies rows q _ h = absurd h
 
 -- an exact filter
-filter_replies : (rows : Rows) (s : Shape) (a : Answer) → Reply rows (Filter s) a → (ks : List ℕ) × (a ≡ Keys ks) × IsKeysWith (Meeting s) rows ks
+filter_replies : (rows : Rows) (s : Shape) (a : Answer) → PlainReply rows (Filter s) a → (ks : List ℕ) × (a ≡ Keys ks) × IsKeysWith (Meeting s) rows ks
 filter_replies rows s (Keys ks) h = (ks, refl, h)
 filter_replies rows s _ h = absurd h
 
 -- ---- a reply is allowed
-filter_means : (rows : Rows) (s : Shape) (a : Answer) → Reply rows (Filter s) a → Means rows (Filter s) a
+filter_means : (rows : Rows) (s : Shape) (a : Answer) → PlainReply rows (Filter s) a → Means rows (Filter s) a
 filter_means rows s (Keys ks) h = CoversKeysWith-from_exact (Meeting s) rows ks h
 filter_means rows s _ h = absurd h
 
-plan_means : (rows : Rows) (q : Query) (a : Answer) → Reply rows (statements.Plan q) a → Means rows (statements.Plan q) a
+plan_means : (rows : Rows) (q : Query) (a : Answer) → PlainReply rows (statements.Plan q) a → Means rows (statements.Plan q) a
 plan_means rows q (answers.Plan c s r ks) h = h.keys
 plan_means rows q _ h = absurd h
 
-pub Means-from_Reply : (rows : Rows) (s : Statement) (a : Answer) → Reply rows s a → Means rows s a
-Means-from_Reply rows (Insert k s) a h = h
-Means-from_Reply rows (Update k s) a h = h
-Means-from_Reply rows (Delete k) a h = h
-Means-from_Reply rows (Get k) a h = h
-Means-from_Reply rows (Select q) a h = h
-Means-from_Reply rows (Filter s) a h = filter_means rows s a h
-Means-from_Reply rows (DeleteWhere q) a h = h
-Means-from_Reply rows (statements.Plan q) a h = plan_means rows q a h
+pub Means-from_PlainReply : (rows : Rows) (s : Statement) (a : Answer) → PlainReply rows s a → Means rows s a
+Means-from_PlainReply rows (Insert k s) a h = h
+Means-from_PlainReply rows (Update k s) a h = h
+Means-from_PlainReply rows (Delete k) a h = h
+Means-from_PlainReply rows (Get k) a h = h
+Means-from_PlainReply rows (Select q) a h = h
+Means-from_PlainReply rows (Filter s) a h = filter_means rows s a h
+Means-from_PlainReply rows (DeleteWhere q) a h = h
+Means-from_PlainReply rows (statements.Plan q) a h = plan_means rows q a h
 
 -- ---- and there is one at most
 -- a key isn't both held and free
@@ -110,24 +110,24 @@ ByKey-unique rows k held free a b (inr h) (inr g) = h.0 ∙ sym g.0
 ByKey-unique rows k held free a b (inl h) (inr g) = absurd (held_or_free (shape_at rows k) h.1 g.1)
 ByKey-unique rows k held free a b (inr h) (inl g) = absurd (held_or_free (shape_at rows k) g.1 h.1)
 
-pub Reply-unique : (rows : Rows) (s : Statement) (a b : Answer) → Reply rows s a → Reply rows s b → a ≡ b
-Reply-unique rows (Insert k s) a b h g = ByKey-unique rows k Duplicate Inserted a b (insert_answers rows k s a h) (insert_answers rows k s b g)
-Reply-unique rows (Update k s) a b h g = ByKey-unique rows k Done Missing a b (update_answers rows k s a h) (update_answers rows k s b g)
-Reply-unique rows (Delete k) a b h g = ByKey-unique rows k Done Missing a b (delete_answers rows k a h) (delete_answers rows k b g)
-Reply-unique rows (Get k) a b h g = get_answers rows k a h ∙ sym (get_answers rows k b g)
-Reply-unique rows (Select q) a b h g =
+pub PlainReply-unique : (rows : Rows) (s : Statement) (a b : Answer) → PlainReply rows s a → PlainReply rows s b → a ≡ b
+PlainReply-unique rows (Insert k s) a b h g = ByKey-unique rows k Duplicate Inserted a b (insert_answers rows k s a h) (insert_answers rows k s b g)
+PlainReply-unique rows (Update k s) a b h g = ByKey-unique rows k Done Missing a b (update_answers rows k s a h) (update_answers rows k s b g)
+PlainReply-unique rows (Delete k) a b h g = ByKey-unique rows k Done Missing a b (delete_answers rows k a h) (delete_answers rows k b g)
+PlainReply-unique rows (Get k) a b h g = get_answers rows k a h ∙ sym (get_answers rows k b g)
+PlainReply-unique rows (Select q) a b h g =
     let x = select_answers rows q a h in
     let y = select_answers rows q b g in
     x.1 ∙ (ap (λ (keys : List ℕ). Keys keys) (IsKeysWith-unique (Satisfies q) rows x.0 y.0 x.2 y.2) ∙ sym y.1)
-Reply-unique rows (Filter s) a b h g =
+PlainReply-unique rows (Filter s) a b h g =
     let x = filter_replies rows s a h in
     let y = filter_replies rows s b g in
     x.1 ∙ (ap (λ (keys : List ℕ). Keys keys) (IsKeysWith-unique (Meeting s) rows x.0 y.0 x.2 y.2) ∙ sym y.1)
-Reply-unique rows (DeleteWhere q) a b h g =
+PlainReply-unique rows (DeleteWhere q) a b h g =
     let x = delete_where_answers rows q a h in
     let y = delete_where_answers rows q b g in
     x.1 ∙ (ap (λ (keys : List ℕ). Deleted keys) (IsKeysWith-unique (Satisfies q) rows x.0 y.0 x.2 y.2) ∙ sym y.1)
-Reply-unique rows (statements.Plan q) a b h g =
+PlainReply-unique rows (statements.Plan q) a b h g =
     let x = plan_replies rows q a h in
     let y = plan_replies rows q b g in
     let candidates = looked_at q.shape rows in

@@ -43,10 +43,18 @@ pub record IsScan (rows : Rows) (q : Query) (candidates sure refined : ℕ) (ks 
   pub keys : IsKeysWith (Satisfies q) rows ks
 
 -- The one answer of a table without an index: a filter is exact, a plan is of a scan, and all else leaves no choice.
-abbrev pub Reply : Rows → Statement → Answer → Type 0
-Reply rows (Filter s) (Keys ks) = IsKeysWith (Meeting s) rows ks
-Reply rows (statement.Plan q) (answer.Plan candidates sure refined ks) = IsScan rows q candidates sure refined ks
-Reply rows s a = Means rows s a
+abbrev pub PlainReply : Rows → Statement → Answer → Type 0
+PlainReply rows (Filter s) (Keys ks) = IsKeysWith (Meeting s) rows ks
+PlainReply rows (statement.Plan q) (answer.Plan candidates sure refined ks) = IsScan rows q candidates sure refined ks
+PlainReply rows s a = Means rows s a
+
+-- The statement takes memory on these rows, for a copy of a shape or for keys.
+abbrev pub TakesMemory : Rows → Statement → Type 0
+TakesMemory rows (Insert k s) = shape_at rows k ≡ None
+TakesMemory rows (Update k s) = IsSome (shape_at rows k)
+TakesMemory rows (Delete k) = ⊥
+TakesMemory rows (Get k) = IsSome (shape_at rows k)
+TakesMemory rows other = Unit {0}
 
 -- the rows that a statement leaves, given its answer
 abbrev pub effect : Statement → Answer → Rows → Rows

@@ -1,10 +1,10 @@
 -- Transactions executed one after another, and the order in which a script's may be.
-use Rattle.std.specs.Prelude.{◌≡◌, ℕ, ◌-◌, ◌≤◌, ◌<◌, List, [], ◌∷◌, Some, slice_get, All, AllPairs, Contains}
+use Rattle.std.specs.Prelude.{◌≡◌, ℕ, ◌-◌, ◌≤◌, ◌<◌, List, [], ◌∷◌, ◌++◌, Some, slice_get, All, AllPairs, Contains}
 use Rattle.sg_plain.specs.declared.statements.Statement.{Statement}
 use Rattle.sg_plain.specs.declared.statements.Answer.{Answer}
 use Rattle.sg_plain.specs.declared.transactions.End.TheVariants.{Commit}
 use Rattle.sg_plain.specs.Rows.{Rows}
-use Rattle.sg_plain.specs.Replies.{Means, effect}
+use Rattle.sg_plain.specs.Replies.{Means, PlainReply, effect}
 use Rattle.sg_plain.specs.Transactions.{TransactionPlan, SessionPlan}
 
 -- a transaction that committed: whose it was, its number there, its statements, and the answer kept for each
@@ -24,6 +24,14 @@ ExecutesBy Allows old statements answers new = ⊥
 
 abbrev pub Executes : Rows → List Statement → List Answer → Rows → Type 0
 Executes = ExecutesBy Means
+
+-- new are the rows that some front of the statements leaves on a table without an index; the answers are given up
+pub record StopsAfterFront (old : Rows) (statements : List Statement) (new : Rows) : Type 0 where
+  pub front : List Statement
+  pub rest : List Statement
+  pub answers : List Answer
+  pub all : front ++ rest ≡ statements
+  pub executed : ExecutesBy PlainReply old front answers new
 
 -- the same of a journal's transactions, one after another
 abbrev pub SerialBy : (Rows → Statement → Answer → Type 0) → Rows → List Entry → Rows → Type 0

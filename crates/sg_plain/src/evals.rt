@@ -1,6 +1,6 @@
 ghost use Rattle.std.specs.Prelude.{◌≡◌, IfOk, OnErr};
 ghost use Rattle.sg_shape.specs.Sound.{IsSound};
-ghost use Rattle.sg_plain.specs.Replies.{Means, Reply, effect, looked_at};
+ghost use Rattle.sg_plain.specs.Replies.{Means, PlainReply, TakesMemory, effect, looked_at};
 ghost use Rattle.sg_plain.specs.Sat.{IsSoundAnswer, IsSoundQuery, IsSoundStatement};
 
 use crate::rows::PlainRows;
@@ -9,8 +9,9 @@ use crate::statements::{Answer, Query, Statement, Test};
 use sg_shape::{Judge, Pred, Shape};
 use std::alloc::{AllocError, Global};
 
-/// Answers a statement as a table without an index does, and leaves the rows after it. Without memory the rows
-/// stay as they were.
+/// Answers a statement as a table without an index does, and leaves the rows after it. `AllocError` is want of memory,
+/// and never comes where none is taken: for a delete, and where a key isn't there to be read or updated, or is there
+/// already. The rows are then as they were.
 pub fn eval<J: Judge>(
     alloc: Global,
     judge: &J,
@@ -18,13 +19,14 @@ pub fn eval<J: Judge>(
     statement: &Statement,
 ) -> Result<Answer, AllocError>
     requires { IsSoundStatement statement.now }
-    ensures reply { IfOk result (Reply rows.old statement.now) }
+    ensures reply { IfOk result (PlainReply rows.old statement.now) }
     ensures means { IfOk result (Means rows.old statement.now) }
     ensures effect { IfOk result (λ answer. rows.new ≡ effect statement.now answer rows.old) }
     ensures sound { IfOk result IsSoundAnswer }
     ensures err { OnErr result (rows.new ≡ rows.old) }
+    ensures memory { OnErr result (TakesMemory rows.old statement.now) }
 {
-    let _all_sound = rows.as_slice();
+    rows.in_order();
     answer(alloc, judge, rows, statement)
 }
 
@@ -35,10 +37,11 @@ fn answer<J: Judge>(
     statement: &Statement,
 ) -> Result<Answer, AllocError>
     requires { IsSoundStatement statement.now }
-    ensures reply { IfOk result (Reply rows.old statement.now) }
+    ensures reply { IfOk result (PlainReply rows.old statement.now) }
     ensures means { IfOk result (Means rows.old statement.now) }
     ensures effect { IfOk result (λ answer. rows.new ≡ effect statement.now answer rows.old) }
     ensures err { OnErr result (rows.new ≡ rows.old) }
+    ensures memory { OnErr result (TakesMemory rows.old statement.now) }
 {
     match statement {
         Statement::Insert(key, shape) => insert(alloc, rows, *key, shape),
@@ -69,6 +72,7 @@ fn insert(
     ensures means { IfOk result (Means rows.old (Statement.Insert key shape.now)) }
     ensures effect { IfOk result (λ answer. rows.new ≡ effect (Statement.Insert key shape.now) answer rows.old) }
     ensures err { OnErr result (rows.new ≡ rows.old) }
+    ensures memory { OnErr result (TakesMemory rows.old (Statement.Insert key shape.now)) }
 {
     match rows.search(key) {
         Ok(_) => Ok(Answer::Duplicate),
@@ -90,6 +94,7 @@ fn update(
     ensures means { IfOk result (Means rows.old (Statement.Update key shape.now)) }
     ensures effect { IfOk result (λ answer. rows.new ≡ effect (Statement.Update key shape.now) answer rows.old) }
     ensures err { OnErr result (rows.new ≡ rows.old) }
+    ensures memory { OnErr result (TakesMemory rows.old (Statement.Update key shape.now)) }
 {
     match rows.search(key) {
         Ok(place) => {
@@ -115,7 +120,8 @@ fn delete(rows: &mut PlainRows, key: u32) -> Answer
 }
 
 fn get(alloc: Global, rows: &PlainRows, key: u32) -> Result<Answer, AllocError>
-    ensures { IfOk result (Means rows.now (Statement.Get key)) }
+    ensures means { IfOk result (Means rows.now (Statement.Get key)) }
+    ensures memory { OnErr result (TakesMemory rows.now (Statement.Get key)) }
 {
     match rows.shape_at(key) {
         Some(shape) => Ok(Answer::Found(shape.copy(alloc)?)),
@@ -147,7 +153,7 @@ fn plan<J: Judge>(
     query: &Query,
 ) -> Result<Answer, AllocError>
     requires { IsSoundQuery query.now }
-    ensures reply { IfOk result (Reply rows.now (Statement.Plan query.now)) }
+    ensures reply { IfOk result (PlainReply rows.now (Statement.Plan query.now)) }
     ensures means { IfOk result (Means rows.now (Statement.Plan query.now)) }
     ensures effect { IfOk result (λ answer. rows.now ≡ effect (Statement.Plan query.now) answer rows.now) }
 {

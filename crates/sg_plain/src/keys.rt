@@ -71,9 +71,7 @@ impl KeyList {
     {
         let mut copy = KeyList::new(alloc);
         for key in self.keys.as_slice() {
-            if copy.push(*key).is_err() {
-                return Err(AllocError);
-            }
+            copy.push(*key)?;
         }
         Ok(copy)
     }

@@ -74,6 +74,14 @@ impl PlainRows {
         self.rows.as_slice()
     }
 
+    /// That the keys rise and all shapes are sound, for a proof that rests on it. It does nothing.
+    #[inline(always)]
+    pub fn in_order(&self)
+        ensures { AreRows self.now }
+    {
+        let _rows = &self.rows;
+    }
+
     /// The shape at a key: `None` exactly where no row has it.
     pub fn shape_at(&self, key: u32) -> Option<&Shape>
         ensures { option_copied result ≡ shape_at self.now key }

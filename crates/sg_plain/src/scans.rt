@@ -50,10 +50,8 @@ fn take_row<J: Judge>(
     if !is_sat(alloc, judge, test, &row.1, shape)? {
         return Ok(());
     }
-    match keys.push(row.0) {
-        Ok(()) => Ok(()),
-        Err(_) => Err(AllocError),
-    }
+    keys.push(row.0)?;
+    Ok(())
 }
 
 fn is_sat<J: Judge>(

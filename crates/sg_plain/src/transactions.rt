@@ -87,6 +87,14 @@ impl Transaction {
         self.statements.at(place)
     }
 
+    /// That all shapes are sound, for a proof that rests on it. It does nothing.
+    #[inline(always)]
+    pub fn all_sound(&self)
+        ensures { AreSound self.now.statements }
+    {
+        let _statements = &self.statements;
+    }
+
     /// All statements, in order.
     pub fn as_slice(&self) -> &[Statement]
         ensures all { result.now ≡ self.now.statements }

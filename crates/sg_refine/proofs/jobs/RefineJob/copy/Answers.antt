@@ -4,7 +4,7 @@ use Rattle.sg_shape.specs.Sound.{IsSound}
 use Rattle.sg_plain.specs.Keys.{IsRising}
 use Rattle.sg_plain.specs.Rows.{Rows, AreRows, keys_of}
 use Rattle.sg_plain.proofs.PlaceLemmas.{row_is, rising_row}
-use Rattle.sg_refine.specs.Jobs.{Job, IsNext}
+use Rattle.sg_refine.specs.Jobs.{Job, IsNextItem}
 use Rattle.sg_refine.proofs.jobs.RefineJob.copy.Goals as goal
 
 pub push-requires : goal.push-requires
