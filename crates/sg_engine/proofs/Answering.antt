@@ -22,7 +22,7 @@ use Rattle.sg_engine.specs.declared.shared.Pending.{Pending}
 use Rattle.sg_engine.specs.Shown.{Shown, Seated, Running, Refining, empty_seat, running_of, seated, no_job, IsRunOf}
 use Rattle.sg_engine.specs.Inside.{seat_of, running_in, job_of, job_in_running, job_in_pending, shown_in, OnRunning, SeatChanges}
 use Rattle.sg_engine.specs.Ends.{EndsJob}
-use Rattle.sg_engine.specs.Nexts.{IsNext}
+use Rattle.sg_engine.specs.Nexts.{IsNextAct}
 use Rattle.sg_engine.specs.Steps.{OpenReads}
 use Rattle.sg_engine.specs.Answers.{HasRoom, IsAnsweredBy, IsAnswered}
 use Rattle.sg_engine.specs.Phases.{IsPending, IsRunning, IsSeat}
@@ -234,7 +234,7 @@ module _ (w : Stage) (labels : List Label) (entries : List Entry) (seats : List 
         }
 
   -- ---- of a statement that writes nothing
-  module _ (a : Answer) (next : IsNext v s (Replies a)) (reads : OpenReads v s) where
+  module _ (a : Answer) (next : IsNextAct v s (Replies a)) (reads : OpenReads v s) where
     abbrev st : Statement
     st = (next ok.events ok.run).0
 

@@ -9,7 +9,7 @@ use Rattle.sg_cells.specs.declared.keys.Key.{Key}
 use Rattle.sg_locks.specs.Grants.{Grant, RemovesSession}
 use Rattle.sg_modes.specs.declared.modes.Mode.{Mode}
 use Rattle.sg_modes.specs.Sessions.{IsSession, AreSessions, has_session}
-use Rattle.sg_modes.specs.SessionLaws.{member_is_session}
+use Rattle.sg_modes.proofs.SessionLaws.{member_is_session}
 use Rattle.sg_modes.specs.Waits as waiting
 use Rattle.sg_modes.specs.Waits.{is_waiting, blockers_of, AreWaits, with_wait, waits_after, NoCycle, IsCycleSet}
 use Rattle.sg_modes.proofs.WaitLaws.{RisingWaits-with, RisingWaits-after, blockers-is_waiting}
@@ -18,7 +18,7 @@ use Rattle.sg_plain.specs.declared.statements.Statement.{Statement}
 use Rattle.sg_plain.specs.Serial.{Entry}
 use Rattle.sg_rows.specs.Table.{TableRow}
 use Rattle.sg_cellrows.specs.CellTable.{CellRow}
-use Rattle.sg_versions.specs.declared.version.End.TheVariants.{Undo}
+use Rattle.sg_versions.specs.declared.version.WritesEnd.TheVariants.{Undo}
 use Rattle.sg_versions.specs.Versions.{settled}
 use Rattle.sg_waits.specs.declared.ranks.Rank.{Rank}
 use Rattle.sg_waits.specs.Ranks.{rank_of}

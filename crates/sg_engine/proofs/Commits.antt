@@ -10,7 +10,7 @@ use Rattle.sg_modes.specs.Waits.{Wait, AreWaits, waits_after}
 use Rattle.sg_plain.specs.Serial.{Entry}
 use Rattle.sg_rows.specs.Table.{TableRow}
 use Rattle.sg_cellrows.specs.CellTable.{CellRow}
-use Rattle.sg_versions.specs.declared.version.End.TheVariants.{Keep, Undo}
+use Rattle.sg_versions.specs.declared.version.WritesEnd.TheVariants.{Keep, Undo}
 use Rattle.sg_versions.specs.Versions.{settled}
 use Rattle.sg_trace.specs.declared.labels.Label.{Label}
 use Rattle.sg_trace.specs.declared.labels.Label.TheVariants as label

@@ -8,7 +8,7 @@ use Rattle.sg_modes.specs.declared.modes.Mode.{Mode}
 use Rattle.sg_modes.specs.declared.modes.Mode.TheVariants.{S, U, X, RangeSS, RangeSU, RangeIN, RangeXX}
 use Rattle.sg_modes.specs.Modes.{is_compatible}
 use Rattle.sg_modes.specs.Sessions.{IsSession, AreSessions, has_session}
-use Rattle.sg_modes.specs.SessionLaws.{same_sessions}
+use Rattle.sg_modes.proofs.SessionLaws.{same_sessions}
 use Rattle.sg_locks.specs.Grants.{Grant, mode_place, is_same_mode, has_grant, IsUnblocked}
 use Rattle.sg_locks.specs.Grants as locks
 use Rattle.sg_rows.specs.Table.{TableRow}

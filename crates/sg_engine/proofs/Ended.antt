@@ -19,8 +19,8 @@ use Rattle.sg_modes.specs.Sessions.{IsSession}
 use Rattle.sg_locks.specs.Grants.{Grant, has_grant, is_same_mode, RemovesSession}
 use Rattle.sg_plain.specs.Rows.{Rows, shape_at}
 use Rattle.sg_versions.specs.declared.version.Version.{Version}
-use Rattle.sg_versions.specs.declared.version.End.{End}
-use Rattle.sg_versions.specs.declared.version.End.TheVariants.{Keep, Undo}
+use Rattle.sg_versions.specs.declared.version.WritesEnd.{WritesEnd}
+use Rattle.sg_versions.specs.declared.version.WritesEnd.TheVariants.{Keep, Undo}
 use Rattle.sg_versions.specs.Versions.{is_writer, visible, is_emptied, ended_of, settled, settled_version}
 use Rattle.sg_versions.proofs.Settling.{settled_cons, lookup_settled}
 use Rattle.sg_versions.specs.Writers.{writer_of}
@@ -51,16 +51,16 @@ use Rattle.sg_engine.proofs.Left.{left, left_committed, left_seen, left_other, u
 use Rattle.sg_engine.proofs.StoreKeys.{has_row_end, has_cell_end, has_row, row_is_found, cell_code, has_cell, cell_is_found}
 
 -- the committed rows after the end
-abbrev pub rows_left : End → State → ℕ → Rows
+abbrev pub rows_left : WritesEnd → State → ℕ → Rows
 rows_left Keep z s = effects (z.of s).done z.rows
 rows_left Undo z s = z.rows
 
 -- the state after it
-abbrev pub ended : End → State → ℕ → State
+abbrev pub ended : WritesEnd → State → ℕ → State
 ended e z s = laws.ended z s (rows_left e z s)
 
 -- the cells that are left are cells as code has them
-codes_settled : (e : End) (s : ℕ) (index : List CellRow) → AreCodes index → AreCodes (settled e s index)
+codes_settled : (e : WritesEnd) (s : ℕ) (index : List CellRow) → AreCodes index → AreCodes (settled e s index)
 codes_settled e s [] h = tt
 codes_settled e s (r ∷ rs) h = subst AreCodes (sym (settled_cons e s r rs)) (by_test (is_emptied e s r.1) (codes_settled e s rs h.1))
   where
@@ -73,7 +73,7 @@ marked : (c : Settings) → IfSome c.grid IsGrid → (o : Option Shape) (cell : 
 marked c grid None cell code = mark_there c.grid (if_some IsGrid c.grid grid) None cell code
 marked c grid (Some a) cell code = mark_there c.grid (if_some IsGrid c.grid grid) (Some a) cell code
 
-module _ (c : Settings) (z : State) (ok : IsSoundState c z) (s : ℕ) (session : IsSession s) (e : End)
+module _ (c : Settings) (z : State) (ok : IsSoundState c z) (s : ℕ) (session : IsSession s) (e : WritesEnd)
     (table : List TableRow) (index : List CellRow) (grants : List (Grant Key)) (t : Ties c z table index grants) where
   -- ---- who writes
   abbrev row_at : ℕ → Option (Version Shape)
@@ -98,14 +98,14 @@ module _ (c : Settings) (z : State) (ok : IsSoundState c z) (s : ℕ) (session :
   row_left : (k : ℕ) → left e s (row_at k) ≡ shape_at (rows_left e z s) k
   row_left k = by_end e
     where
-      by_end : (e : End) → left e s (row_at k) ≡ shape_at (rows_left e z s) k
+      by_end : (e : WritesEnd) → left e s (row_at k) ≡ shape_at (rows_left e z s) k
       by_end Keep = t.seen s session k
       by_end Undo = t.committed k
 
   cell_left : (cell : Path) (k : ℕ) → left e s (cell_at cell k) ≡ mark_of c.grid (left e s (row_at k)) cell
   cell_left cell k = by_end e
     where
-      by_end : (e : End) → left e s (cell_at cell k) ≡ mark_of c.grid (left e s (row_at k)) cell
+      by_end : (e : WritesEnd) → left e s (cell_at cell k) ≡ mark_of c.grid (left e s (row_at k)) cell
       by_end Keep = t.cells_seen s session cell k
       by_end Undo = t.cells_committed cell k
 

@@ -31,7 +31,7 @@ use Rattle.sg_engine.specs.declared.shared.Seat.{Seat}
 use Rattle.sg_engine.specs.Shown.{Shown, Seated, seated, IsRunOf}
 use Rattle.sg_engine.specs.Inside.{seat_of, running_in, job_of, job_in_running, shown_in}
 use Rattle.sg_engine.specs.Phases.{IsPending, IsRunning, IsSearching, IsSeat}
-use Rattle.sg_engine.specs.Nexts.{IsNext, IsFree, cost_with, with_key, counted}
+use Rattle.sg_engine.specs.Nexts.{IsNextAct, IsFree, cost_with, with_key, counted}
 use Rattle.sg_engine.specs.Ties.{IsCoded, Ties, IsEngine, running_count}
 use Rattle.sg_engine.proofs.Events.{with_same, count_labels}
 use Rattle.sg_engine.proofs.Seats.{seat_at}
@@ -184,7 +184,7 @@ module _ (w : Stage) (labels : List Label) (entries : List Entry) (seats : List 
       }
 
   -- ---- a lock
-  module _ (k : Key) (m : Mode) (next : IsNext v s (Takes k m)) (free : IsFree v s k m) where
+  module _ (k : Key) (m : Mode) (next : IsNextAct v s (Takes k m)) (free : IsFree v s k m) where
     abbrev st : Statement
     st = (next ok.events ok.run).0
 

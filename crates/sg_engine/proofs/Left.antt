@@ -4,8 +4,8 @@ use Rattle.std.proofs.Common.{◌≡◌, ◌≢◌, ◌⊎◌, ℕ, Bool, true, 
 use Rattle.std.specs.Option.{is_none}
 use Rattle.std.proofs.lemmas.Bool.{ne_eqb}
 use Rattle.sg_versions.specs.declared.version.Version.{Version}
-use Rattle.sg_versions.specs.declared.version.End.{End}
-use Rattle.sg_versions.specs.declared.version.End.TheVariants.{Keep, Undo}
+use Rattle.sg_versions.specs.declared.version.WritesEnd.{WritesEnd}
+use Rattle.sg_versions.specs.declared.version.WritesEnd.TheVariants.{Keep, Undo}
 use Rattle.sg_versions.specs.Versions.{is_writer, seen, visible, outcome, ended, settled_version}
 use Rattle.sg_versions.specs.Writers.{writer_of}
 use Rattle.sg_stores.specs.Agreement.{committed_in}
@@ -81,42 +81,42 @@ is_not_none None h = absurd (cc)
 is_not_none (Some x) h = refl
 
 -- what the end leaves at a key: what the session saw there, or what was committed
-abbrev pub left : {V : Type 0} → End → ℕ → Option (Version V) → Option V
+abbrev pub left : {V : Type 0} → WritesEnd → ℕ → Option (Version V) → Option V
 left Keep s o = visible s o
 left Undo s o = committed_in o
 
 module _ {V : Type 0} (s : ℕ) where
-  pub left_committed : (e : End) (o : Option (Version V)) → committed_in (settled_version e s o) ≡ left e s o
+  pub left_committed : (e : WritesEnd) (o : Option (Version V)) → committed_in (settled_version e s o) ≡ left e s o
   left_committed Keep o = kept_committed s o
   left_committed Undo o = undone_committed s o
 
-  pub left_seen : (e : End) (o : Option (Version V)) → visible s (settled_version e s o) ≡ left e s o
+  pub left_seen : (e : WritesEnd) (o : Option (Version V)) → visible s (settled_version e s o) ≡ left e s o
   left_seen Keep o = kept_seen s o
   left_seen Undo o = undone_seen s o
 
-  outcome_left : (e : End) (v : Version V) → is_writer s v.writer ≡ true → outcome e v ≡ left e s (Some v)
+  outcome_left : (e : WritesEnd) (v : Version V) → is_writer s v.writer ≡ true → outcome e v ≡ left e s (Some v)
   outcome_left Keep v h = ap (λ b. cond b v.live v.committed) (sym h)
   outcome_left Undo v h = refl
 
-  other_by : (e : End) (u : ℕ) (v : Version V) (b : Bool) → is_writer s v.writer ≡ b → visible u (cond (b && is_none (outcome e v)) None (Some (cond b (ended e v) v))) ≡ cond b (left e s (Some v)) (seen u v)
+  other_by : (e : WritesEnd) (u : ℕ) (v : Version V) (b : Bool) → is_writer s v.writer ≡ b → visible u (cond (b && is_none (outcome e v)) None (Some (cond b (ended e v) v))) ≡ cond b (left e s (Some v)) (seen u v)
   other_by e u v true h = seen_left s u (outcome e v) ∙ outcome_left e v h
   other_by e u v false h = refl
 
   -- another session sees what the end leaves where the session had written, and elsewhere what it saw before
-  pub left_other : (e : End) (u : ℕ) (o : Option (Version V)) → visible u (settled_version e s o) ≡ cond (is_writer s (writer_of o)) (left e s o) (visible u o)
+  pub left_other : (e : WritesEnd) (u : ℕ) (o : Option (Version V)) → visible u (settled_version e s o) ≡ cond (is_writer s (writer_of o)) (left e s o) (visible u o)
   left_other e u None = refl
   left_other e u (Some v) = other_by e u v (is_writer s v.writer) refl
 
   -- where the session had not written, nothing changes
-  not_by : (e : End) (v : Version V) (b : Bool) → b ≡ false → cond (b && is_none (outcome e v)) None (Some (cond b (ended e v) v)) ≡ Some v
+  not_by : (e : WritesEnd) (v : Version V) (b : Bool) → b ≡ false → cond (b && is_none (outcome e v)) None (Some (cond b (ended e v) v)) ≡ Some v
   not_by e v true h = absurd (cc)
   not_by e v false h = refl
 
-  pub unwritten_same : (e : End) (o : Option (Version V)) → is_writer s (writer_of o) ≡ false → settled_version e s o ≡ o
+  pub unwritten_same : (e : WritesEnd) (o : Option (Version V)) → is_writer s (writer_of o) ≡ false → settled_version e s o ≡ o
   unwritten_same e None h = refl
   unwritten_same e (Some v) h = not_by e v (is_writer s v.writer) h
 
-  pub unwritten_left : (e : End) (o : Option (Version V)) → is_writer s (writer_of o) ≡ false → left e s o ≡ committed_in o
+  pub unwritten_left : (e : WritesEnd) (o : Option (Version V)) → is_writer s (writer_of o) ≡ false → left e s o ≡ committed_in o
   unwritten_left Keep None h = refl
   unwritten_left Keep (Some v) h = ap (λ b. cond b v.live v.committed) h
   unwritten_left Undo o h = refl
@@ -131,36 +131,36 @@ module _ {V : Type 0} (s : ℕ) where
   some_of None h = h
   some_of (Some v) h = refl
 
-  pub left_there : (e : End) (o : Option (Version V)) → is_some (left e s o) ≡ true → is_some (settled_version e s o) ≡ true
+  pub left_there : (e : WritesEnd) (o : Option (Version V)) → is_some (left e s o) ≡ true → is_some (settled_version e s o) ≡ true
   left_there e o h = some_of (settled_version e s o) (ap is_some (left_committed e o) ∙ h)
 
-  there_by : (e : End) (v : Version V) (b : Bool) → is_writer s v.writer ≡ b → (n : Bool) → is_none (outcome e v) ≡ n → is_some (cond (b && n) None (Some (cond b (ended e v) v))) ≡ true
+  there_by : (e : WritesEnd) (v : Version V) (b : Bool) → is_writer s v.writer ≡ b → (n : Bool) → is_none (outcome e v) ≡ n → is_some (cond (b && n) None (Some (cond b (ended e v) v))) ≡ true
       → (is_some (left e s (Some v)) ≡ true) ⊎ (b ≡ false)
   there_by e v true h true m i = absurd (cc)
   there_by e v true h false m i = inl (ap is_some (sym (outcome_left e v h)) ∙ is_not_none (outcome e v) m)
   there_by e v false h n m i = inr refl
 
-  pub there_left : (e : End) (o : Option (Version V)) → is_some (settled_version e s o) ≡ true → (is_some (left e s o) ≡ true) ⊎ (is_writer s (writer_of o) ≡ false)
+  pub there_left : (e : WritesEnd) (o : Option (Version V)) → is_some (settled_version e s o) ≡ true → (is_some (left e s o) ≡ true) ⊎ (is_writer s (writer_of o) ≡ false)
   there_left e None i = absurd (cc)
   there_left e (Some v) i = there_by e v (is_writer s v.writer) refl (is_none (outcome e v)) refl i
 
   -- ---- writers that stay
-  writer_by : (e : End) (u : ℕ) (v : Version V) (b n : Bool) → writer_of (cond (b && n) None (Some (cond b (ended e v) v))) ≡ Some u → (b ≡ false) × (v.writer ≡ Some u)
+  writer_by : (e : WritesEnd) (u : ℕ) (v : Version V) (b n : Bool) → writer_of (cond (b && n) None (Some (cond b (ended e v) v))) ≡ Some u → (b ≡ false) × (v.writer ≡ Some u)
   writer_by e u v true true h = absurd (cc)
   writer_by e u v true false h = absurd (cc)
   writer_by e u v false n h = (refl, h)
 
-  pub writer_left : (e : End) (u : ℕ) (o : Option (Version V)) → writer_of (settled_version e s o) ≡ Some u → (is_writer s (writer_of o) ≡ false) × (writer_of o ≡ Some u)
+  pub writer_left : (e : WritesEnd) (u : ℕ) (o : Option (Version V)) → writer_of (settled_version e s o) ≡ Some u → (is_writer s (writer_of o) ≡ false) × (writer_of o ≡ Some u)
   writer_left e u None h = absurd (cc)
   writer_left e u (Some v) h = writer_by e u v (is_writer s v.writer) (is_none (outcome e v)) h
 
   -- a key that nobody has written still has a committed value
-  kept_by_end : (e : End) (v : Version V) → IsKept (Some v) → (b n : Bool) → is_none (outcome e v) ≡ n → IsKept (cond (b && n) None (Some (cond b (ended e v) v)))
+  kept_by_end : (e : WritesEnd) (v : Version V) → IsKept (Some v) → (b n : Bool) → is_none (outcome e v) ≡ n → IsKept (cond (b && n) None (Some (cond b (ended e v) v)))
   kept_by_end e v k true true m = tt
   kept_by_end e v k true false m = λ h. is_not_none (outcome e v) m
   kept_by_end e v k false n m = k
 
-  pub kept_left : (e : End) (o : Option (Version V)) → IsKept o → IsKept (settled_version e s o)
+  pub kept_left : (e : WritesEnd) (o : Option (Version V)) → IsKept o → IsKept (settled_version e s o)
   kept_left e None k = tt
   kept_left e (Some v) k = kept_by_end e v k (is_writer s v.writer) (is_none (outcome e v)) refl
 

@@ -9,7 +9,7 @@ use Rattle.sg_modes.specs.Waits.{Wait, blockers_of, AreWaits, waits_after, NoCyc
 use Rattle.sg_plain.specs.Serial.{Entry}
 use Rattle.sg_rows.specs.Table.{TableRow}
 use Rattle.sg_cellrows.specs.CellTable.{CellRow}
-use Rattle.sg_versions.specs.declared.version.End.{End}
+use Rattle.sg_versions.specs.declared.version.WritesEnd.{WritesEnd}
 use Rattle.sg_versions.specs.Versions.{settled}
 use Rattle.sg_trace.specs.declared.labels.Label.{Label}
 use Rattle.sg_trace.specs.Traces.{Stage, Event, State, state, idle, after, session_of, label_of}
@@ -123,7 +123,7 @@ module _ (w : Stage) (es : List Event) (labels : List Label) (entries : List Ent
       let r : running_count (map seat_of (set seats i (quit d))) ≡ running_count (set (map seat_of seats) i (seat_of (quit d))) = ap running_count (map-set seat_of seats i (quit d)) in
       omega (arith, c, old, l, r)
 
-  module _ (how : End) (e : Event) (own : session_of e ≡ s) (ends : state w (e ∷ es) ≡ ended how z s) (local : after e (z.of (session_of e)) ≡ idle (z.of (session_of e)).begun) (clears : (u : ℕ) → waits (e ∷ es) u ≡ cleared (waits es) s u) (wish : last_wish (e ∷ es) s ≡ last_wish es s)
+  module _ (how : WritesEnd) (e : Event) (own : session_of e ≡ s) (ends : state w (e ∷ es) ≡ ended how z s) (local : after e (z.of (session_of e)) ≡ idle (z.of (session_of e)).begun) (clears : (u : ℕ) → waits (e ∷ es) u ≡ cleared (waits es) s u) (wish : last_wish (e ∷ es) s ≡ last_wish es s)
       (legal : IsLegal w (e ∷ es)) (on : (z.of s).live ≡ true)
       (labels' : List Label) (entries' : List Entry) (table' : List TableRow) (index' : List CellRow) (grants' : List (Grant Key)) (standing' : List Wait) (live' room' entry_room' : ℕ)
       (pushed : labels' ≡ labels ++ label_of e ∷ []) (journal_is : entries' ≡ journal w (e ∷ es)) (table_ends : table' ≡ settled how s table) (index_ends : index' ≡ settled how s index) (released : RemovesSession key_cmp grants grants' s)

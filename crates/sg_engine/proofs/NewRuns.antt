@@ -44,7 +44,7 @@ use Rattle.sg_engine.specs.declared.shared.Seat.{Seat}
 use Rattle.sg_engine.specs.Shown.{Shown, IsRunOf}
 use Rattle.sg_engine.specs.Inside.{seat_of, running_in, job_of, job_in_running, job_in_pending, shown_in}
 use Rattle.sg_engine.specs.Phases.{IsPending, IsRunning, IsSeat}
-use Rattle.sg_engine.specs.Nexts.{IsNext, IsFree, IsNew, HasNew, cost_with, done_reading, with_new, writing}
+use Rattle.sg_engine.specs.Nexts.{IsNextAct, IsFree, IsNew, HasNew, cost_with, done_reading, with_new, writing}
 use Rattle.sg_engine.specs.Ties.{IsCoded, Ties, IsEngine}
 use Rattle.sg_engine.proofs.Events.{with_same}
 use Rattle.sg_engine.proofs.Begins.{within_is}
@@ -109,7 +109,7 @@ module _ (s : ℕ) (key : CellKey) (index : List CellRow) (absent : version_at i
 module _ (w : Stage) (labels : List Label) (entries : List Entry) (seats : List Seat) (table : List TableRow) (index : List CellRow) (grants : List (Grant Key)) (standing : List Wait) (live room entry_room : ℕ)
     (ok : IsEngine (shown_in w labels entries seats) table index grants standing seats live room entry_room)
     (s i : ℕ) (session : IsSession s) (below : i < 64) (mine : i + 1 ≡ s) (d : Seat) (there : d ≡ get_or seats i d) (k next : Key) (m : Mode)
-    (act : IsNext (shown_in w labels entries seats) s (Puts k next m)) (free : IsFree (shown_in w labels entries seats) s next RangeIN) where
+    (act : IsNextAct (shown_in w labels entries seats) s (Puts k next m)) (free : IsFree (shown_in w labels entries seats) s next RangeIN) where
   abbrev z : State
   z = state w ok.events
 

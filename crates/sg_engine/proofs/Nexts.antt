@@ -32,7 +32,7 @@ use Rattle.sg_engine.specs.Shown.{Shown, Seated, Refining, IsRunOf, seated, runn
 use Rattle.sg_engine.specs.Inside.{seat_of, job_of, job_in_running, job_in_pending, job_in_work, is_writing, was_delivered, running_in, shown_in, OnRunning, SeatChanges}
 use Rattle.sg_engine.specs.Phases.{HasRefinedAll, IsPending, IsRunning, IsSeat, IsWork, IsSearching}
 use Rattle.sg_engine.specs.Ties.{IsEngine}
-use Rattle.sg_engine.specs.Nexts.{IsNext, WaitsForNone, HasReadAll}
+use Rattle.sg_engine.specs.Nexts.{IsNextAct, WaitsForNone, HasReadAll}
 use Rattle.sg_engine.specs.Searches.{pending_in, pending_of, OnPending, OnlyPending, IsScanAt, IsSearched, IsReadNeed}
 use Rattle.sg_engine.proofs.Kept.{each_set, own_seat, if_some}
 use Rattle.sg_engine.proofs.Rooms.{told, told_running}
@@ -221,12 +221,12 @@ module _ (w : Stage) (labels : List Label) (entries : List Entry) (seats : List 
     chosen = selected (view (state w ok.events) s) (sees w.settings (state w ok.events) s good.sound).rows p.statement sound
 
     -- any act of the session's is its next, whatever led here
-    pub is_next : WaitsForNone v s → (a : Act) → IsAct w (state w ok.events) s p.statement a → IsNext v s a
+    pub is_next : WaitsForNone v s → (a : Act) → IsAct w (state w ok.events) s p.statement a → IsNextAct v s a
     is_next free a act = λ xs run.
         let o = opened xs run in
         (p.statement, record { live = o.live; open_one = o.open_one; no_wait = free xs run }, subst (λ (y : State). IsAct w y s p.statement a) (same_state xs run) act)
 
-    pub take_next : WaitsForNone v s → (k : Key) (m : Mode) → IsReadNeed w.settings grants s table index p.statement (Some (k, m)) → IsNext v s (Takes k m)
+    pub take_next : WaitsForNone v s → (k : Key) (m : Mode) → IsReadNeed w.settings grants s table index p.statement (Some (k, m)) → IsNextAct v s (Takes k m)
     take_next free k m need =
         is_next free (Takes k m) (reading_act w (state w ok.events) good s session table index grants ok.ties p.statement chosen.0 chosen.1 keys_are seen_are k m (sym (need (ok.ties.cells_seen s session) ok.ties.codes)))
 
@@ -266,7 +266,7 @@ module _ (w : Stage) (labels : List Label) (entries : List Entry) (seats : List 
   Needed need = IfSome (pending_of d) (λ (p : Pending). IsReadNeed w.settings grants s table index p.statement need)
 
   taken : (k : Key) (m : Mode) → WaitsForNone v s → (o : Option Pending) → pending_of d ≡ o → IsSome o → IfSome o (λ (p : Pending). IsSoundStatement p.statement)
-      → IfSome o (λ (p : Pending). IsReadNeed w.settings grants s table index p.statement (Some (k, m))) → IsNext v s (Takes k m)
+      → IfSome o (λ (p : Pending). IsReadNeed w.settings grants s table index p.statement (Some (k, m))) → IsNextAct v s (Takes k m)
   taken k m free None e has sound need = absurd (cc)
   taken k m free (Some p) e has sound need = take_next p e sound free k m need
 
@@ -281,7 +281,7 @@ module _ (w : Stage) (labels : List Label) (entries : List Entry) (seats : List 
   unread_by (Some p) e has sound need h read = none_needed p e sound need h read
 
   -- what is asked for first
-  pub takes : {E : Type 0} (r : Result (Option (Key × Mode)) E) → IfOk r Needed → IsSome (pending_of d) → WaitsForNone v s → IfOk r (λ need. IfSome need (λ q. IsNext v s (Takes q.0 q.1)))
+  pub takes : {E : Type 0} (r : Result (Option (Key × Mode)) E) → IfOk r Needed → IsSome (pending_of d) → WaitsForNone v s → IfOk r (λ need. IfSome need (λ q. IsNextAct v s (Takes q.0 q.1)))
   takes (Err e) h has free = tt
   takes (Ok None) h has free = tt
   takes (Ok (Some q)) h has free = taken q.0 q.1 free (pending_of d) refl has sounds h

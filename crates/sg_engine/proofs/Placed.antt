@@ -33,7 +33,7 @@ use Rattle.sg_engine.specs.Shown.{Shown, Refining, IsRunOf}
 use Rattle.sg_engine.specs.Inside.{seat_of, job_of, job_in_running, job_in_pending, job_in_work, is_writing, running_in, shown_in, OnRunning, SeatChanges, was_delivered}
 use Rattle.sg_engine.specs.Phases.{HasRefinedAll, IsPending, IsRunning, IsSeat, IsWork, IsWriting, IsSearching}
 use Rattle.sg_engine.specs.Ties.{IsEngine}
-use Rattle.sg_engine.specs.Nexts.{IsNext, WaitsForNone, HasReadAll}
+use Rattle.sg_engine.specs.Nexts.{IsNextAct, WaitsForNone, HasReadAll}
 use Rattle.sg_engine.specs.Acting.{act_of, change_in, change_at, change_by, change_of, OnChange, IsNearer}
 use Rattle.sg_engine.specs.Searches.{pending_in, pending_of, OnPending, OnlyPending}
 use Rattle.sg_engine.specs.Steps.{HasAllMet}
@@ -267,10 +267,10 @@ module _ (w : Stage) (labels : List Label) (entries : List Entry) (seats : List 
         → IsFirst grants s (store_keys table index) (write_needs w.settings (store_keys table index) (seen_rows s table) change.selected a.pending.statement) found
     first found h = h w.settings a.pending.statement change.selected writing.change_for ok.staged.settings (ok.ties.cells_seen s session) ok.ties.codes
 
-    next_by : (it : Act) → IsAct w (state w ok.events) s a.pending.statement it → IsNext v s it
+    next_by : (it : Act) → IsAct w (state w ok.events) s a.pending.statement it → IsNextAct v s it
     next_by it h = is_next w labels entries seats table index grants standing live room entry_room ok s i session within mine d there a.pending a.at sound free it h
 
-    next_of : (it : needs.Act) → IsFirstAct grants s table index change (Some it) → IsNext v s (act_of it)
+    next_of : (it : needs.Act) → IsFirstAct grants s table index change (Some it) → IsNextAct v s (act_of it)
     next_of (act.Lock k m) h =
         next_by (Takes k m) (locking_act w (state w ok.events) good s session table index grants ok.ties a.pending.statement change.selected writing.selects keys_are seen_are reads k m (first (Some (act.Lock k m)) h))
     next_of (act.New k next m) h =
@@ -295,7 +295,7 @@ module _ (w : Stage) (labels : List Label) (entries : List Entry) (seats : List 
   abbrev IsFirstFor : Option needs.Act → Type 0
   IsFirstFor found = IfSome (change_of d) (λ (change : Change). IsFirstAct grants s table index change found)
 
-  acts_by : (it : needs.Act) → WaitsForNone v s → HasReadAll v s → (o : Option Change) → change_of d ≡ o → IsSome o → IfSome o (λ (change : Change). IsFirstAct grants s table index change (Some it)) → IsNext v s (act_of it)
+  acts_by : (it : needs.Act) → WaitsForNone v s → HasReadAll v s → (o : Option Change) → change_of d ≡ o → IsSome o → IfSome o (λ (change : Change). IsFirstAct grants s table index change (Some it)) → IsNextAct v s (act_of it)
   acts_by it free read None e has h = absurd (cc)
   acts_by it free read (Some change) e has h = next_of change (at_running d.running change e) free read it h
 
@@ -304,7 +304,7 @@ module _ (w : Stage) (labels : List Label) (entries : List Entry) (seats : List 
   all_by free read (Some change) e has h = met_of change (at_running d.running change e) free read h
 
   module _ (free : WaitsForNone v s) (read : HasReadAll v s) (has : IsSome (change_of d)) where
-    pub acts : (found : Option needs.Act) → IsFirstFor found → IfSome found (λ it. IsNext v s (act_of it))
+    pub acts : (found : Option needs.Act) → IsFirstFor found → IfSome found (λ it. IsNextAct v s (act_of it))
     acts None h = tt
     acts (Some it) h = acts_by it free read (change_of d) refl has h
 

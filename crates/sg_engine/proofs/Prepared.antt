@@ -43,7 +43,7 @@ use Rattle.sg_engine.specs.Shown.{Shown, Seated, Refining, IsRunOf, seat_in, job
 use Rattle.sg_engine.specs.Inside.{seat_of, job_of, job_in_running, job_in_pending, job_in_work, is_writing, was_delivered, running_in, shown_in}
 use Rattle.sg_engine.specs.Phases.{HasRefinedAll, IsNameOf, IsWork, IsPending, IsRunning, IsSeat, IsSearching, AreLeft, answer_of, unsure_rows}
 use Rattle.sg_engine.specs.Ties.{IsEngine, is_running, running_count}
-use Rattle.sg_engine.specs.Nexts.{IsNext, WaitsForNone, HasReadAll}
+use Rattle.sg_engine.specs.Nexts.{IsNextAct, WaitsForNone, HasReadAll}
 use Rattle.sg_engine.specs.Searches.{pending_in, pending_of}
 use Rattle.sg_engine.specs.Steps.{IsSameRun, SetsJob, OpenReads}
 use Rattle.sg_engine.specs.Preparing.{IsJobAt, IsJobFor, HasNoneLeft, Prepares, IsNoJob}
@@ -411,7 +411,7 @@ module _ (w : Stage) (labels : List Label) (entries : List Entry) (seats : List 
     run_same : IsSameRun v later
     run_same = same_run seats i d x there (settled_seat r d) w labels entries
 
-    answered : (a : Answer) → (Writes p.statement → ⊥) → Reply w.settings (seen_rows s table) p.statement a → WaitsForNone v s → IsNext v s (Replies a)
+    answered : (a : Answer) → (Writes p.statement → ⊥) → Reply w.settings (seen_rows s table) p.statement a → WaitsForNone v s → IsNextAct v s (Replies a)
     answered a reads reply free =
         let z : State = state w ok.events in
         let fine = good w labels entries seats table index grants standing live room entry_room ok s i session within mine d there in

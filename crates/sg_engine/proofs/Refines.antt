@@ -4,7 +4,7 @@ use Rattle.std.proofs.Common.{◌≡◌, ◌⊎◌, ℕ, ◌+◌, ◌<◌, Bool,
 use Rattle.sg_cells.specs.declared.keys.Key.{Key}
 use Rattle.sg_cells.specs.declared.settings.Settings.{Settings}
 use Rattle.sg_modes.specs.declared.modes.Mode.{Mode}
-use Rattle.sg_modes.specs.BoolLaws.{clash}
+use Rattle.sg_modes.proofs.BoolLaws.{clash}
 use Rattle.sg_modes.specs.Sessions.{IsSession}
 use Rattle.sg_modes.specs.Waits.{Wait}
 use Rattle.sg_locks.specs.Grants.{Grant}

@@ -17,7 +17,7 @@ use Rattle.sg_plain.specs.declared.statements.Statement.TheVariants.{Insert, Upd
 use Rattle.sg_plain.specs.Rows.{shape_at}
 use Rattle.sg_ranges.specs.Pairs.{Pair}
 use Rattle.sg_rows.specs.Table.{TableRow}
-use Rattle.sg_cellrows.specs.CellTable.{CellKey, CellRow, is_above}
+use Rattle.sg_cellrows.specs.CellTable.{CellKey, CellRow, is_past}
 use Rattle.sg_locks.specs.Grants.{Grant, has_grant}
 use Rattle.sg_trace.specs.Keys.{is_range, meets}
 use Rattle.sg_trace.specs.Needs as n
@@ -200,7 +200,7 @@ module _ (w : Stage) (r : IsStage w) (s : ℕ) (is : IsSession s) (e : Event) (e
   row_behind k list None h = record { row_held = tt; cells_held = λ c code up moved. absurd (cc) }
   row_behind k list (Some a) h = record {
     row_held = held_still (meets S) (Row k) tt h.row_held;
-    cells_held = cells_still k h.row_held list (λ c. is_above (Some a) c ≡ false) h.cells_held;
+    cells_held = cells_still k h.row_held list (λ c. is_past (Some a) c ≡ false) h.cells_held;
   }
 
   -- what is held to be written is held to be read

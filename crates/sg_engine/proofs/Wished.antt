@@ -27,7 +27,7 @@ use Rattle.sg_engine.specs.declared.shared.Seat.{Seat}
 use Rattle.sg_engine.specs.Shown.{Shown, Seated, seated, running_of, IsRunOf, is_open_in, open_of}
 use Rattle.sg_engine.specs.Inside.{shown_in}
 use Rattle.sg_engine.specs.Phases.{last_wish}
-use Rattle.sg_engine.specs.Nexts.{IsNext, IsFree, WaitsForNone}
+use Rattle.sg_engine.specs.Nexts.{IsNextAct, IsFree, WaitsForNone}
 use Rattle.sg_engine.specs.Steps.{Stands}
 use Rattle.sg_engine.specs.Wishes.{IsWish, AreInTheWay}
 use Rattle.sg_engine.specs.Ties.{IsCoded, IsEngine}
@@ -38,10 +38,10 @@ use Rattle.sg_engine.proofs.Replied.{coded_key}
 
 -- ---- what is asked for
 module _ (v : Shown) (s : ℕ) where
-  pub lock_wish : (k : Key) (m : Mode) → IsNext v s (Takes k m) → IsWish v s k m
+  pub lock_wish : (k : Key) (m : Mode) → IsNextAct v s (Takes k m) → IsWish v s k m
   lock_wish k m next = λ es run. let n = next es run in (n.0, n.1, record { act = Takes k m; is_act = n.2; reason = inl refl })
 
-  pub gap_wish : (new k : Key) (m : Mode) → IsNext v s (Puts new k m) → IsWish v s k RangeIN
+  pub gap_wish : (new k : Key) (m : Mode) → IsNextAct v s (Puts new k m) → IsWish v s k RangeIN
   gap_wish new k m next = λ es run. let n = next es run in (n.0, n.1, record { act = Puts new k m; is_act = n.2; reason = inr (refl, (new, m, refl)) })
 
   module _ (k : Key) (m : Mode) (b : List ℕ) (are : AreInTheWay v s k m b) where

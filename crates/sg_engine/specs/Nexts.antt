@@ -22,8 +22,8 @@ use Rattle.sg_engine.specs.declared.shared.Seat.{Seat}
 use Rattle.sg_engine.specs.Shown.{Shown, IsRunOf}
 
 -- the session's open statement asks for this act next
-abbrev pub IsNext : Shown → ℕ → Act → Type 0
-IsNext v s act = (es : List Event) → IsRunOf es v → (st : Statement) × IsOpen v.stage es s st × IsAct v.stage (state v.stage es) s st act
+abbrev pub IsNextAct : Shown → ℕ → Act → Type 0
+IsNextAct v s act = (es : List Event) → IsRunOf es v → (st : Statement) × IsOpen v.stage es s st × IsAct v.stage (state v.stage es) s st act
 
 -- nobody keeps the session from having the key in the mode
 abbrev pub IsFree : Shown → ℕ → Key → Mode → Type 0

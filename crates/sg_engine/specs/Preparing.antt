@@ -9,7 +9,7 @@ use Rattle.sg_engine.specs.declared.preparing.Prepared.{Prepared}
 use Rattle.sg_engine.specs.declared.preparing.Prepared.TheVariants as prepared
 use Rattle.sg_engine.specs.Shown.{Shown, IsRunOf, job_in}
 use Rattle.sg_engine.specs.Phases.{IsNameOf, IsJobOf, AreLeft}
-use Rattle.sg_engine.specs.Nexts.{IsNext}
+use Rattle.sg_engine.specs.Nexts.{IsNextAct}
 use Rattle.sg_engine.specs.Steps.{IsSameRun, SetsJob, OpenReads}
 
 -- the job is that of the session's open statement, with all that is left to refine, which is something
@@ -31,7 +31,7 @@ HasNoneLeft v s =
 -- Its answer is the session's next act; or its job is waited for, and given again as long as it is; or it has come to
 -- its writes.
 abbrev pub Prepares : ℕ → Shown → Shown → Prepared → Type 0
-Prepares s old new (prepared.Answer a) = (new ≡ old) × IsNext old s (Replies a) × OpenReads old s
+Prepares s old new (prepared.Answer a) = (new ≡ old) × IsNextAct old s (Replies a) × OpenReads old s
 Prepares s old new (prepared.Job job) = IsSameRun old new × SetsJob s (record { job = Some job; delivered = false; writes = false }) old new × IsJobFor old s job × ((job_in old.jobs s).delivered ≡ false)
 Prepares s old new prepared.Writes = IsSameRun old new × SetsJob s (record { job = None; delivered = (job_in old.jobs s).delivered; writes = true }) old new × ((job_in old.jobs s).job ≡ None)
 

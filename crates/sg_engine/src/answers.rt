@@ -4,7 +4,7 @@ ghost use Rattle.sg_trace.specs.Legal.{Replies};
 ghost use Rattle.sg_engine.specs.Shown.{Appends, job_in};
 ghost use Rattle.sg_engine.specs.Inside.{SeatChanges};
 ghost use Rattle.sg_engine.specs.Ends.{EndsJob};
-ghost use Rattle.sg_engine.specs.Nexts.{IsNext};
+ghost use Rattle.sg_engine.specs.Nexts.{IsNextAct};
 ghost use Rattle.sg_engine.specs.Steps.{OpenReads, HasAllMet, HasAnswered};
 ghost use Rattle.sg_engine.specs.Answers.{HasRoom, IsAnswered, TellsOf, change_of, unwritten};
 
@@ -20,13 +20,13 @@ impl Shared {
     /// Answers the session's open statement, which writes nothing. `AllocError` is want of memory; nothing has changed
     /// then.
     pub(crate) fn answer(&mut self, s: Session, answer: Answer) -> Result<(), AllocError>
-        requires reply { IsNext self.old s (Replies answer) }
+        requires reply { IsNextAct self.old s (Replies answer) }
         requires reads { OpenReads self.old s }
         ensures run { OnOk result (Appends (Answered s answer ∷ []) self.old self.new) }
         ensures job { OnOk result (EndsJob s self.old self.new) }
         ensures err { OnErr result (self.new ≡ self.old) }
     {
-        let _number = s.number();
+        s.in_range();
         let told = answer.copy(self.alloc)?;
         self.trace.reserve(self.live + 1)?;
         keep(&mut self.seats[s.index()], answer);
@@ -45,7 +45,7 @@ impl Shared {
         ensures ok { OnOk result (HasAnswered s self.old self.new) }
         ensures err { OnErr result (self.new ≡ self.old) }
     {
-        let _number = s.number();
+        s.in_range();
         let selected = selected_at(&self.seats[s.index()]).copy(self.alloc)?;
         self.trace.reserve(self.live + 1)?;
         let seat = &mut self.seats[s.index()];

@@ -42,8 +42,8 @@ impl Shared {
         ensures job { OnOk result (SetsJob s (record { job = None; delivered = true; writes = false }) self.old self.new) }
         ensures err { OnErr result (self.new ≡ self.old) }
     {
-        let _number = s.number();
-        let _exact = done.keys();
+        s.in_range();
+        done.exact();
         receive(&mut self.seats[s.index()], done)
     }
 }

@@ -17,9 +17,9 @@ impl Shared {
         ensures entry { self.new.journal ≡ self.old.journal ++ entry_in s (seat_in self.old.seats s) ∷ [] }
         ensures job { EndsJob s self.old self.new }
     {
-        let _number = s.number();
-        let _standing = self.waits.blockers(s);
-        let _room = self.journal.room();
+        s.in_range();
+        self.waits.in_order();
+        self.journal.countable();
         let place = self.journal.len() as u64 + 1;
         self.rows.keep(s);
         self.cells.keep(s);
@@ -40,8 +40,8 @@ impl Shared {
         ensures run { Appends (Rollback s cause ∷ []) self.old self.new }
         ensures job { EndsJob s self.old self.new }
     {
-        let _number = s.number();
-        let _standing = self.waits.blockers(s);
+        s.in_range();
+        self.waits.in_order();
         self.rows.undo(s);
         self.cells.undo(s);
         self.locks.release_all(s);

@@ -103,7 +103,7 @@ impl<J: Judge + Copy + Send + Sync, C: CellJudge + Copy + Send + Sync> Engine<J,
         ensures job { OnOk result (SetsJob s (record { job = None; delivered = true; writes = false }) self.old self.new) }
         ensures err { OnErr result (self.new ≡ self.old) }
     {
-        let _number = s.number();
+        s.in_range();
         self.shared.deliver(s, done)
     }
 
@@ -132,7 +132,7 @@ impl<J: Judge + Copy + Send + Sync, C: CellJudge + Copy + Send + Sync> Engine<J,
         ensures entry { self.new.journal ≡ self.old.journal ++ entry_in s (seat_in self.old.seats s) ∷ [] }
         ensures job { EndsJob s self.old self.new }
     {
-        let _number = s.number();
+        s.in_range();
         self.shared.commit(s)
     }
 
@@ -143,7 +143,7 @@ impl<J: Judge + Copy + Send + Sync, C: CellJudge + Copy + Send + Sync> Engine<J,
         ensures run { Appends (Rollback s cause ∷ []) self.old self.new }
         ensures job { EndsJob s self.old self.new }
     {
-        let _number = s.number();
+        s.in_range();
         self.shared.rollback(s, cause);
     }
 

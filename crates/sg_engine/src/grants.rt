@@ -2,7 +2,7 @@ ghost use Rattle.std.specs.Prelude.{◌≡◌, ◌+◌, ◌<◌, ◌^◌, [], �
 ghost use Rattle.sg_trace.specs.Traces.{Take};
 ghost use Rattle.sg_trace.specs.Legal.{Takes};
 ghost use Rattle.sg_engine.specs.Shown.{Appends};
-ghost use Rattle.sg_engine.specs.Nexts.{IsNext, IsFree, counted, cost_with};
+ghost use Rattle.sg_engine.specs.Nexts.{IsNextAct, IsFree, counted, cost_with};
 
 use crate::shared::{Seat, Shared};
 use sg_cells::Key;
@@ -14,17 +14,17 @@ impl Shared {
     /// Takes the lock that the session's open statement asks for next, where nobody is in its way. `AllocError` is want
     /// of memory; nothing has changed then.
     pub(crate) fn take(&mut self, s: Session, key: Key, mode: Mode) -> Result<(), AllocError>
-        requires next { IsNext self.old s (Takes key mode) }
+        requires next { IsNextAct self.old s (Takes key mode) }
         requires free { IsFree self.old s key mode }
         ensures ok { OnOk result (Appends (Take s key mode ∷ []) self.old self.new) }
         ensures jobs { self.new.jobs ≡ self.old.jobs }
         ensures err { OnErr result (self.new ≡ self.old) }
     {
-        let _number = s.number();
+        s.in_range();
         let _free = self.locks.blockers(s, &key, mode).is_empty();
         self.trace.reserve(self.live + 1)?;
         self.locks.reserve(1)?;
-        let _fits = self.trace.room();
+        self.trace.countable();
         count(&mut self.seats[s.index()], mode);
         self.locks.grant_reserved(s, key, mode);
         self.trace.push_reserved(Label::Take {

@@ -3,7 +3,7 @@ ghost use Rattle.sg_modes.specs.declared.modes.Mode.TheVariants.{RangeIN};
 ghost use Rattle.sg_trace.specs.Traces.{Put};
 ghost use Rattle.sg_trace.specs.Legal.{Puts};
 ghost use Rattle.sg_engine.specs.Shown.{Appends};
-ghost use Rattle.sg_engine.specs.Nexts.{IsNext, IsFree, IsNew, HasNew, writing};
+ghost use Rattle.sg_engine.specs.Nexts.{IsNextAct, IsFree, IsNew, HasNew, writing};
 
 use crate::grants::cost_of;
 use crate::shared::{Seat, Shared};
@@ -24,19 +24,19 @@ impl Shared {
         next: Key,
         mode: Mode,
     ) -> Result<(), AllocError>
-        requires next { IsNext self.old s (Puts key next mode) }
+        requires next { IsNextAct self.old s (Puts key next mode) }
         requires free { IsFree self.old s next RangeIN }
         ensures ok { OnOk result (Appends (Put s key mode ∷ []) self.old self.new) }
         ensures jobs { self.new.jobs ≡ self.old.jobs }
         ensures err { OnErr result (self.new ≡ self.old) }
     {
-        let _number = s.number();
+        s.in_range();
         let _free = self.locks.blockers(s, &key, mode).is_empty();
         self.trace.reserve(self.live + 1)?;
         self.locks.reserve(1)?;
         self.rows.reserve(1)?;
         self.cells.reserve(1)?;
-        let _fits = self.trace.room();
+        self.trace.countable();
         write_on(&mut self.seats[s.index()], mode);
         put_key(s, key, &mut self.rows, &mut self.cells);
         self.locks.grant_reserved(s, key, mode);

@@ -2,7 +2,7 @@ ghost use Rattle.std.specs.Prelude.{◌≡◌, true, None, IfSome, IsSome};
 ghost use Rattle.sg_writes.specs.Changes.{IsBehindHeld, IsFirstAct};
 ghost use Rattle.sg_engine.specs.Shown.{job_in};
 ghost use Rattle.sg_engine.specs.Inside.{SeatChanges};
-ghost use Rattle.sg_engine.specs.Nexts.{IsNext, WaitsForNone, HasReadAll};
+ghost use Rattle.sg_engine.specs.Nexts.{IsNextAct, WaitsForNone, HasReadAll};
 ghost use Rattle.sg_engine.specs.Acting.{act_of, change_in, change_of, IsNearer};
 ghost use Rattle.sg_engine.specs.Searches.{OnlyPending};
 ghost use Rattle.sg_engine.specs.Steps.{HasAllMet};
@@ -23,10 +23,10 @@ impl Shared {
         requires free { WaitsForNone self.old s }
         requires read { HasReadAll self.old s }
         ensures same { self.new ≡ self.old }
-        ensures act { IfSome result (λ act. IsNext self.old s (act_of act)) }
+        ensures act { IfSome result (λ act. IsNextAct self.old s (act_of act)) }
         ensures none { result ≡ None → HasAllMet self.old s }
     {
-        let _number = s.number();
+        s.in_range();
         act_at(
             &mut self.seats[s.index()],
             s,

@@ -1,15 +1,14 @@
 ghost use Rattle.std.specs.Prelude.{◌≡◌, ◌≤◌, ℕ, [], length, IfOk, IfSome};
 ghost use Rattle.std.specs.List.{AllByRecursion};
 ghost use Rattle.sg_cells.specs.Cells.{IsGrid};
-ghost use Rattle.sg_modes.specs.Priorities.{ArePriorities};
 ghost use Rattle.sg_trace.specs.Legal.{IsStage};
 ghost use Rattle.sg_engine.specs.Shown.{IsRunOf, job_in, no_job};
 ghost use Rattle.sg_engine.specs.Inside.{IsUnused};
 
 use crate::shared::{Seat, Shared};
-use sg_cells::{Cell, Settings};
+use sg_cells::Settings;
 use sg_locks::Locks;
-use sg_modes::{Priorities, Session};
+use sg_modes::Priorities;
 use sg_plain::PlainRows;
 use sg_scan::load;
 use sg_shape::CellJudge;
@@ -37,11 +36,11 @@ impl Shared {
         ensures staged { IfOk result (λ it. IsStage it.stage) }
     {
         check_grid(&settings);
-        check_priorities(&priorities);
-        let _all_rise = rows.as_slice();
+        priorities.in_range();
+        rows.in_order();
         let opening = rows.copy(alloc)?;
         let loaded = load(rt, alloc, judge, &settings, rows)?;
-        let _in_order = loaded.cells.present((Cell::outside(), 0));
+        loaded.cells.rising();
         let locks = Locks::new(alloc);
         let waits = Waits::new();
         let trace: Trace = Roomy::new(alloc);
@@ -80,23 +79,11 @@ fn unused_seats(alloc: Global) -> Result<Vec<Seat>, AllocError>
     Ok(seats)
 }
 
-/// Priorities are such as their type keeps.
-fn check_priorities(priorities: &Priorities)
-    ensures { ArePriorities priorities.now }
-{
-    match Session::new(1) {
-        None => unreachable!(),
-        Some(first) => {
-            let _priority = priorities.of(first);
-        }
-    }
-}
-
 /// A grid's limits are those that its type keeps.
 fn check_grid(settings: &Settings)
     ensures { IfSome settings.now.grid IsGrid }
 {
     if let Some(grid) = &settings.grid {
-        let _cells = grid.cells();
+        grid.in_limits();
     }
 }

@@ -77,8 +77,8 @@ impl Shared {
         ensures left { IfOk result (λ it. IsNoJob it → HasNoneLeft self.old s) }
         ensures err { OnErr result (self.new ≡ self.old) }
     {
-        let _number = s.number();
-        let _fits = self.trace.room();
+        s.in_range();
+        self.trace.countable();
         let place = s.index();
         let reached = reached_at(
             &self.seats[place],
@@ -258,7 +258,7 @@ impl Pending {
         requires scan { IfSome self.now.scan (IsScanFor settings.now self.now.statement) }
         ensures { IfOk result (IsReached settings.now (seen_rows name.session rows.now.rows) self.now.statement Work.Unread name) }
     {
-        let _sound = rows.present(0);
+        rows.in_order();
         let found = self.found(alloc, judge, settings, name.session, rows, cells)?;
         if is_filtered(&self.statement, settings) {
             return Ok(Reached::Answer(Answer::Keys(found.candidates)));

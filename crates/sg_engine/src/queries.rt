@@ -60,15 +60,13 @@ fn offer(
     if holds(sure, key) {
         return Ok(());
     }
-    let _all_rise = job.as_slice();
+    job.in_order();
     let Some(shape) = shape_of(rows, s, key) else {
         return Ok(());
     };
     let copy = shape.copy(alloc)?;
-    match job.push(key, copy) {
-        Ok(()) => Ok(()),
-        Err(_) => Err(AllocError),
-    }
+    job.push(key, copy)?;
+    Ok(())
 }
 
 /// The shape of the row with the key, as the session sees it.
@@ -76,7 +74,7 @@ pub(crate) fn shape_of(rows: &Rows, s: Session, key: u32) -> Option<&Shape>
     ensures shape { option_copied result ≡ shape_at (seen_rows s rows.now.rows) key }
     ensures sound { IfSome result (λ shape. IsSound shape.now) }
 {
-    let _present = rows.present(key);
+    rows.in_order();
     rows.visible(s, key)
 }
 
@@ -101,10 +99,8 @@ fn push(keys: &mut KeyList, key: u32) -> Result<(), AllocError>
     requires { IsRising (keys.old ++ key ∷ []) }
     ensures { OnOk result (keys.new ≡ keys.old ++ key ∷ []) }
 {
-    match keys.push(key) {
-        Ok(()) => Ok(()),
-        Err(_) => Err(AllocError),
-    }
+    keys.push(key)?;
+    Ok(())
 }
 
 /// Whether the key is in the list. It compares a logarithmic number of keys.

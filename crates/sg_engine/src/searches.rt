@@ -5,7 +5,7 @@ ghost use Rattle.sg_trace.specs.Legal.{Takes};
 ghost use Rattle.sg_scan.specs.Scans.{Asks};
 ghost use Rattle.sg_engine.specs.Shown.{is_open_in};
 ghost use Rattle.sg_engine.specs.Inside.{SeatChanges};
-ghost use Rattle.sg_engine.specs.Nexts.{IsNext, WaitsForNone, HasReadAll};
+ghost use Rattle.sg_engine.specs.Nexts.{IsNextAct, WaitsForNone, HasReadAll};
 ghost use Rattle.sg_engine.specs.Searches.{pending_of, OnlyPending, IsScanAt, IsSearched, IsReadNeed};
 
 use crate::shared::{Pending, Seat, Shared};
@@ -30,11 +30,11 @@ impl Shared {
         requires open { is_open_in self.old s ≡ true }
         requires free { WaitsForNone self.old s }
         ensures same { self.new ≡ self.old }
-        ensures take { IfOk result (λ need. IfSome need (λ p. IsNext self.old s (Takes p.0 p.1))) }
+        ensures take { IfOk result (λ need. IfSome need (λ p. IsNextAct self.old s (Takes p.0 p.1))) }
         ensures read { IfOk result (λ need. need ≡ None → HasReadAll self.old s) }
         ensures unread { HasReadAll self.old s → IfOk result (λ need. need ≡ None) }
     {
-        let _number = s.number();
+        s.in_range();
         let alloc = self.alloc;
         let seat = &mut self.seats[s.index()];
         let need = read_at(

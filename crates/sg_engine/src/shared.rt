@@ -108,10 +108,10 @@ impl Shared {
         ensures jobs { self.new.jobs ≡ self.old.jobs }
         ensures err { OnErr result (self.new ≡ self.old) }
     {
-        let _number = s.number();
+        s.in_range();
         self.trace.reserve(self.live + 2)?;
         self.journal.reserve(self.live + 1)?;
-        let _fits = self.trace.room();
+        self.trace.countable();
         let alloc = self.alloc;
         let seat = &mut self.seats[s.index()];
         let transaction = start(seat, alloc);
@@ -133,12 +133,12 @@ impl Shared {
         ensures err { OnErr result (self.new ≡ self.old) }
         ensures back { IfErr result (λ back. back.statement ≡ statement) }
     {
-        let _number = s.number();
+        s.in_range();
         match self.trace.reserve(self.live + 1) {
             Err(_) => return Err(AskBack { statement }),
             Ok(()) => {}
         }
-        let _fits = self.trace.room();
+        self.trace.countable();
         let seat = &mut self.seats[s.index()];
         let number = open_one(seat, statement)?;
         self.trace.push_reserved(Label::Ask {
@@ -154,7 +154,7 @@ impl Shared {
     pub(crate) fn is_live(&self, s: Session) -> bool
         ensures { result ≡ is_live_in self.now s }
     {
-        let _number = s.number();
+        s.in_range();
         is_running(&self.seats[s.index()])
     }
 
@@ -162,7 +162,7 @@ impl Shared {
     pub(crate) fn is_open(&self, s: Session) -> bool
         ensures { result ≡ is_open_in self.now s }
     {
-        let _number = s.number();
+        s.in_range();
         has_open(&self.seats[s.index()])
     }
 
@@ -171,7 +171,7 @@ impl Shared {
         requires { is_live_in self.now s ≡ true }
         ensures { AreAnswers result.now.items (seat_in self.now.seats s).running }
     {
-        let _number = s.number();
+        s.in_range();
         answers_of(&self.seats[s.index()])
     }
 }
@@ -182,7 +182,7 @@ impl Shared {
     pub(crate) fn rows(&self) -> &Rows
         ensures { SerialIn self.now.stage.settings self.now.stage.opening self.now.journal (committed_rows result.now.rows) }
     {
-        let _sound = self.rows.present(0);
+        self.rows.in_order();
         &self.rows
     }
 }

@@ -3,7 +3,7 @@ ghost use Rattle.sg_trace.specs.Legal.{Takes, Puts, Replies};
 ghost use Rattle.sg_engine.specs.declared.steps.Step.TheVariants as step;
 ghost use Rattle.sg_engine.specs.Shown.{is_open_in, job_in};
 ghost use Rattle.sg_engine.specs.Inside.{job_of};
-ghost use Rattle.sg_engine.specs.Nexts.{IsNext, WaitsForNone, HasReadAll};
+ghost use Rattle.sg_engine.specs.Nexts.{IsNextAct, WaitsForNone, HasReadAll};
 ghost use Rattle.sg_engine.specs.Steps.{OpenReads, HasAllMet, Stands};
 ghost use Rattle.sg_engine.specs.Wishes.{IsWish, AreInTheWay};
 ghost use Rattle.sg_engine.specs.Outside.{outside};
@@ -85,7 +85,7 @@ impl Shared {
         ensures free { result ≡ None → WaitsForNone self.now s }
         ensures some { IsStanding self.now s → IsSome result }
     {
-        let _number = s.number();
+        s.in_range();
         let blockers = self.waits.blockers(s);
         if blockers.is_empty() {
             return None;
@@ -104,7 +104,7 @@ impl Shared {
         ensures busy { IfOk result (λ it. it ≢ step.Idle) }
         ensures err { OnErr result (outside self.new ≡ outside self.old) }
     {
-        let _number = s.number();
+        s.in_range();
         match self.search(judge, s)? {
             Some((key, mode)) => self.lock_or_wait(s, &key, mode),
             None => self.work_on(judge, s),
@@ -121,7 +121,7 @@ impl Shared {
         ensures busy { IfOk result (λ it. it ≢ step.Idle) }
         ensures err { OnErr result (outside self.new ≡ outside self.old) }
     {
-        let _number = s.number();
+        s.in_range();
         if self.has_come_to_writes(s) {
             return self.write(s);
         }
@@ -134,7 +134,7 @@ impl Shared {
 
     /// Answers the open statement, which writes nothing.
     fn reply(&mut self, s: Session, answer: Answer) -> Result<Step, AllocError>
-        requires next { IsNext self.old s (Replies answer) }
+        requires next { IsNextAct self.old s (Replies answer) }
         requires reads { OpenReads self.old s }
         ensures ok { IfOk result (HasStepped s self.old self.new) }
         ensures busy { IfOk result (λ it. it ≢ step.Idle) }
@@ -174,7 +174,7 @@ impl Shared {
 
     /// Takes the lock that the open statement asks for next, or waits for those who are in the way.
     fn lock_or_wait(&mut self, s: Session, key: &Key, mode: Mode) -> Result<Step, AllocError>
-        requires { IsNext self.old s (Takes key.now mode) }
+        requires { IsNextAct self.old s (Takes key.now mode) }
         ensures ok { IfOk result (HasStepped s self.old self.new) }
         ensures busy { IfOk result (λ it. it ≢ step.Idle) }
         ensures err { OnErr result (self.new ≡ self.old) }
@@ -195,7 +195,7 @@ impl Shared {
         next: &Key,
         mode: Mode,
     ) -> Result<Step, AllocError>
-        requires { IsNext self.old s (Puts key.now next.now mode) }
+        requires { IsNextAct self.old s (Puts key.now next.now mode) }
         ensures ok { IfOk result (HasStepped s self.old self.new) }
         ensures busy { IfOk result (λ it. it ≢ step.Idle) }
         ensures err { OnErr result (self.new ≡ self.old) }
@@ -239,7 +239,7 @@ impl Shared {
         ensures { AreInTheWay self.now s key.now mode result }
     {
         let blockers = self.locks.blockers(s, key, mode);
-        let _all_sessions = blockers.is_empty();
+        blockers.all_sessions();
         blockers
     }
 
@@ -248,7 +248,7 @@ impl Shared {
         ensures writes { result ≡ (job_in self.now.jobs s).writes }
         ensures left { result ≡ true → HasNoneLeft self.now s }
     {
-        let _number = s.number();
+        s.in_range();
         is_writing(&self.seats[s.index()])
     }
 }

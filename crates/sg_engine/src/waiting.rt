@@ -31,9 +31,9 @@ impl Shared {
         ensures ok { IfOk result (HasWaited s key mode blockers self.old self.new) }
         ensures err { OnErr result (self.new ≡ self.old) }
     {
-        let _number = s.number();
+        s.in_range();
         self.trace.reserve(self.live + 1)?;
-        let _standing = self.waits.blockers(s);
+        self.waits.in_order();
         let _seats = self.seats.len();
         self.waits.add(s, blockers);
         wish(&mut self.seats[s.index()], &key, mode);

@@ -38,9 +38,7 @@ fn list_of(alloc: Global, keys: &[u32]) -> Result<KeyList, AllocError>
 {
     let mut list = KeyList::new(alloc);
     for key in keys {
-        if list.push(*key).is_err() {
-            return Err(AllocError);
-        }
+        list.push(*key)?;
     }
     Ok(list)
 }
@@ -88,8 +86,6 @@ fn push_seen(keys: &mut KeyList, s: Session, rows: &Rows, key: u32) -> Result<()
     if rows.visible(s, key).is_none() {
         return Ok(());
     }
-    match keys.push(key) {
-        Ok(()) => Ok(()),
-        Err(_) => Err(AllocError),
-    }
+    keys.push(key)?;
+    Ok(())
 }

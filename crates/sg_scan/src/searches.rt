@@ -122,7 +122,7 @@ impl Search {
         requires { IsByQuery self.now }
         ensures { IfOk result (Finds self.now s rows.now.rows cells.now.rows) }
     {
-        let _rising = rows.first_key();
+        rows.in_order();
         match self {
             Search::Cells(search) => search.found(alloc, s, cells),
             Search::Every => Ok(Found {

@@ -11,7 +11,7 @@ use Rattle.sg_cells.specs.declared.keys.Key.{Key}
 use Rattle.sg_cells.specs.declared.keys.Key.TheVariants as key
 use Rattle.sg_modes.specs.declared.modes.Mode.TheVariants.{S}
 use Rattle.sg_locks.specs.Grants.{Grant}
-use Rattle.sg_cellrows.specs.CellTable.{CellRow, cell_cmp, is_above}
+use Rattle.sg_cellrows.specs.CellTable.{CellRow, cell_cmp, is_past}
 use Rattle.sg_trace.specs.Keys.{meets}
 use Rattle.sg_stores.specs.Agreement.{mark_at}
 use Rattle.sg_stores.specs.Held.{holds_where}
@@ -26,18 +26,18 @@ module _ (grants : List (Grant Key)) (s : ℕ) (index : List CellRow) (row : ℕ
 
   module _ (last : Option Cell) (h : IsRowBehind grants s index row list last) where
     -- no other cell moves
-    pub held_all : ((c : Cell) → is_above last c ≡ true → is_same (mark_seen index s row) (mark_at list) c ≡ true) → AreCellsHeld grants s index row list
-    held_all none c code m = by_test (is_above last c) refl
+    pub held_all : ((c : Cell) → is_past last c ≡ true → is_same (mark_seen index s row) (mark_at list) c ≡ true) → AreCellsHeld grants s index row list
+    held_all none c code m = by_test (is_past last c) refl
       where
-        by_test : (b : Bool) → is_above last c ≡ b → IsCellMet grants s index row c
+        by_test : (b : Bool) → is_past last c ≡ b → IsCellMet grants s index row c
         by_test true e = absurd (true≢false (sym (none c e) ∙ m))
         by_test false e = h.cells_held c code e m
 
     module _ (cell : Cell) (cell_code : IsCode 4 cell) (next : IsNextMoved (mark_seen index s row) (mark_at list) last cell) where
       below : (c : Cell) → IsCode 4 c → is_lt (cell_cmp c cell) ≡ true → moves c → IsCellMet grants s index row c
-      below c code low m = by_test (is_above last c) refl
+      below c code low m = by_test (is_past last c) refl
         where
-          by_test : (b : Bool) → is_above last c ≡ b → IsCellMet grants s index row c
+          by_test : (b : Bool) → is_past last c ≡ b → IsCellMet grants s index row c
           by_test true e = absurd (true≢false (sym (next.between c e low) ∙ m))
           by_test false e = h.cells_held c code e m
 

@@ -16,7 +16,7 @@ use Rattle.sg_cells.specs.Lists.{Later, IsApart}
 use Rattle.sg_cells.specs.Tess.{Entry}
 use Rattle.sg_cells.specs.declared.marks.Mark.{Mark}
 use Rattle.sg_cells.proofs.Tessellates.{id-le-last_of}
-use Rattle.sg_cellrows.specs.CellTable.{CellKey, CellRow, cell_cmp, is_above, IsLeast}
+use Rattle.sg_cellrows.specs.CellTable.{CellKey, CellRow, cell_cmp, is_past, IsLeast}
 use Rattle.sg_cellrows.proofs.NextCells.{cell_total}
 use Rattle.sg_cellrows.proofs.Following.{Respects, passes, value_is, none_before, none_there}
 use Rattle.sg_stores.specs.Agreement.{mark_at}
@@ -60,29 +60,29 @@ unfolding IsStrictlySortedBy
 apart_rising [] h = tt
 apart_rising (e ∷ es) h = (later_above e es h.0, apart_rising es h.1)
 
-pub above_respects : (above : Option Cell) → Respects cell_cmp (is_above above)
+pub above_respects : (above : Option Cell) → Respects cell_cmp (is_past above)
 above_respects None x y e = refl
 above_respects (Some a) x y e = ap is_lt (alike_right cell_total x y a e)
 
 module _ (es : List Entry) (apart : IsApart es) (above : Option Cell) where
-  pub given_beyond : (e : Entry) → Some e ≡ lookup_entry (is_above above) es → is_above above e.0 ≡ true
-  given_beyond e h = passes cell_cmp cell_total (is_above above) (above_respects above) es e (sym h)
+  pub given_beyond : (e : Entry) → Some e ≡ lookup_entry (is_past above) es → is_past above e.0 ≡ true
+  given_beyond e h = passes cell_cmp cell_total (is_past above) (above_respects above) es e (sym h)
 
-  pub given_mark : (e : Entry) → Some e ≡ lookup_entry (is_above above) es → mark_at es e.0 ≡ Some e.1
-  given_mark e h = value_is cell_cmp cell_total (is_above above) (above_respects above) es e (sym h)
+  pub given_mark : (e : Entry) → Some e ≡ lookup_entry (is_past above) es → mark_at es e.0 ≡ Some e.1
+  given_mark e h = value_is cell_cmp cell_total (is_past above) (above_respects above) es e (sym h)
 
-  pub given_between : (e : Entry) → Some e ≡ lookup_entry (is_above above) es → (c : Cell) → is_above above c ≡ true → is_lt (cell_cmp c e.0) ≡ true → mark_at es c ≡ None
-  given_between e h c up low = none_before cell_cmp cell_total (is_above above) (above_respects above) c es e up (lt_less (cell_cmp c e.0) low) (apart_rising es apart) (sym h)
+  pub given_between : (e : Entry) → Some e ≡ lookup_entry (is_past above) es → (c : Cell) → is_past above c ≡ true → is_lt (cell_cmp c e.0) ≡ true → mark_at es c ≡ None
+  given_between e h c up low = none_before cell_cmp cell_total (is_past above) (above_respects above) c es e up (lt_less (cell_cmp c e.0) low) (apart_rising es apart) (sym h)
 
-  pub given_none : None ≡ lookup_entry (is_above above) es → (c : Cell) → is_above above c ≡ true → mark_at es c ≡ None
-  given_none h c up = none_there cell_cmp cell_total (is_above above) (above_respects above) c es up (sym h)
+  pub given_none : None ≡ lookup_entry (is_past above) es → (c : Cell) → is_past above c ≡ true → mark_at es c ≡ None
+  given_none h c up = none_there cell_cmp cell_total (is_past above) (above_respects above) c es up (sym h)
 
 -- two cells with one id have one mark
 pub mark_alike : (es : List Entry) (c d : Cell) → id_of 4 c ≡ id_of 4 d → mark_at es c ≡ mark_at es d
 mark_alike es c d e = ap (λ n. lookup (λ (x : Cell). is_eq (nat_cmp n (id_of 4 x))) es) e
 
 -- ---- what is seen
-pub seen_between : (seen : Cell → Option Mark) (above : Option Cell) (f : Cell × Mark) → IsLeast seen above f → (c : Cell) → is_above above c ≡ true → is_lt (cell_cmp c f.0) ≡ true → seen c ≡ None
+pub seen_between : (seen : Cell → Option Mark) (above : Option Cell) (f : Cell × Mark) → IsLeast seen above f → (c : Cell) → is_past above c ≡ true → is_lt (cell_cmp c f.0) ≡ true → seen c ≡ None
 seen_between seen above f l c up low = by_mark (seen c) refl
   where
     by_mark : (o : Option Mark) → seen c ≡ o → seen c ≡ None
@@ -94,17 +94,17 @@ seen_between seen above f l c up low = by_mark (seen c) refl
 
 module _ (seen : Cell → Option Mark) (es : List Entry) (apart : IsApart es) (above : Option Cell) where
   -- only the list has a next cell
-  pub marks_given : (e : Entry) → Some e ≡ lookup_entry (is_above above) es → ((c : Cell) → is_above above c ≡ true → seen c ≡ None) → IsNextMarks seen (mark_at es) above (record { cell = e.0; old = None; new = Some e.1 })
+  pub marks_given : (e : Entry) → Some e ≡ lookup_entry (is_past above) es → ((c : Cell) → is_past above c ≡ true → seen c ≡ None) → IsNextMarks seen (mark_at es) above (record { cell = e.0; old = None; new = Some e.1 })
   marks_given e h none =
       let up = given_beyond es apart above e h in
       record { beyond = up; old_is = none e.0 up; new_is = given_mark es apart above e h; between = λ c u l. (none c u, given_between es apart above e h c u l) }
 
   -- only what is seen has one
-  pub marks_seen : (f : Cell × Mark) → IsLeast seen above f → None ≡ lookup_entry (is_above above) es → IsNextMarks seen (mark_at es) above (record { cell = f.0; old = Some f.1; new = None })
+  pub marks_seen : (f : Cell × Mark) → IsLeast seen above f → None ≡ lookup_entry (is_past above) es → IsNextMarks seen (mark_at es) above (record { cell = f.0; old = Some f.1; new = None })
   marks_seen f l h = record { beyond = l.beyond; old_is = l.seen_is; new_is = given_none es apart above h f.0 l.beyond; between = λ c u low. (seen_between seen above f l c u low, given_none es apart above h c u) }
 
-  module _ (f : Cell × Mark) (l : IsLeast seen above f) (e : Entry) (h : Some e ≡ lookup_entry (is_above above) es) where
-    later_given : (c : Cell) → is_above above c ≡ true → id_of 4 c < id_of 4 e.0 → mark_at es c ≡ None
+  module _ (f : Cell × Mark) (l : IsLeast seen above f) (e : Entry) (h : Some e ≡ lookup_entry (is_past above) es) where
+    later_given : (c : Cell) → is_past above c ≡ true → id_of 4 c < id_of 4 e.0 → mark_at es c ≡ None
     later_given c u low = given_between es apart above e h c u (ids_lt c e.0 low)
 
     pub lesser_seen : is_lt (cell_cmp f.0 e.0) ≡ true → IsNextMarks seen (mark_at es) above (record { cell = f.0; old = Some f.1; new = None })
@@ -141,7 +141,7 @@ same_refl None = refl
 same_refl (Some Rattle.sg_cells.specs.declared.marks.Mark.TheVariants.Part) = refl
 same_refl (Some Rattle.sg_cells.specs.declared.marks.Mark.TheVariants.Cover) = refl
 
-pub first_of : (es : List Entry) → slice_get es 0 ≡ lookup_entry (is_above None) es
+pub first_of : (es : List Entry) → slice_get es 0 ≡ lookup_entry (is_past None) es
 first_of [] = refl
 first_of (e ∷ es) = refl
 
@@ -150,11 +150,11 @@ abbrev pub left_above : Option Cell → ℕ
 left_above None = 18446744073709551617
 left_above (Some c) = 18446744073709551616 - id_of 4 c
 
-pub less_left : (last : Option Cell) (c : Cell) → is_above last c ≡ true → id_of 4 c < 18446744073709551616 → left_above (Some c) < left_above last
+pub less_left : (last : Option Cell) (c : Cell) → is_past last c ≡ true → id_of 4 c < 18446744073709551616 → left_above (Some c) < left_above last
 less_left None c up most = omega arith
 less_left (Some a) c up most = let low = lt_ids a c up in omega arith
 
-pub up_trans : (above : Option Cell) (c d : Cell) → is_above above c ≡ true → is_lt (cell_cmp c d) ≡ true → is_above above d ≡ true
+pub up_trans : (above : Option Cell) (c d : Cell) → is_past above c ≡ true → is_lt (cell_cmp c d) ≡ true → is_past above d ≡ true
 up_trans None c d up low = refl
 up_trans (Some a) c d up low = let h = lt_ids a c up in let k = lt_ids c d low in ids_lt a d (omega arith)
 
@@ -168,8 +168,8 @@ not_false true h = refl
 
 -- from the start up to a cell nothing moves
 pub record IsStill (old new : Cell → Option Mark) (start last : Option Cell) : Type 0 where
-  pub beyond : (c : Cell) → is_above last c ≡ true → is_above start c ≡ true
-  pub same : (c : Cell) → is_above start c ≡ true → is_above last c ≡ false → is_same old new c ≡ true
+  pub beyond : (c : Cell) → is_past last c ≡ true → is_past start c ≡ true
+  pub same : (c : Cell) → is_past start c ≡ true → is_past last c ≡ false → is_same old new c ≡ true
 
 pub seen_alike : (index : List CellRow) (s row : ℕ) (c d : Cell) → id_of 4 c ≡ id_of 4 d → mark_seen index s row c ≡ mark_seen index s row d
 seen_alike index s row c d e = ap (λ n. visible s (lookup (λ (k : CellKey). is_eq (ordering_then (nat_cmp n (id_of 4 k.0)) (nat_cmp row k.1))) index)) e
@@ -179,10 +179,10 @@ module _ (old new : Cell → Option Mark) (old_alike : (c d : Cell) → id_of 4 
   still_first = record { beyond = λ c h. h; same = λ c up down. absurd (true≢false (sym up ∙ down)) }
 
   module _ (last : Option Cell) (still : IsStill old new start last) where
-    pub still_last : ((c : Cell) → is_above last c ≡ true → (old c ≡ None) × (new c ≡ None)) → (c : Cell) → is_above start c ≡ true → is_same old new c ≡ true
-    still_last none c up = by_test (is_above last c) refl
+    pub still_last : ((c : Cell) → is_past last c ≡ true → (old c ≡ None) × (new c ≡ None)) → (c : Cell) → is_past start c ≡ true → is_same old new c ≡ true
+    still_last none c up = by_test (is_past last c) refl
       where
-        by_test : (b : Bool) → is_above last c ≡ b → is_same old new c ≡ true
+        by_test : (b : Bool) → is_past last c ≡ b → is_same old new c ≡ true
         by_test true e = let r = none c e in ap (λ o. same_mark o (new c)) r.0 ∙ ap (same_mark None) r.1
         by_test false e = still.same c up e
 
@@ -190,10 +190,10 @@ module _ (old new : Cell → Option Mark) (old_alike : (c d : Cell) → id_of 4 
       marks_same : is_same old new m.cell ≡ same_mark m.old m.new
       marks_same = ap (λ o. same_mark o (new m.cell)) next.old_is ∙ ap (same_mark m.old) next.new_is
 
-      below_same : (c : Cell) → is_above start c ≡ true → is_lt (cell_cmp c m.cell) ≡ true → is_same old new c ≡ true
-      below_same c up low = by_test (is_above last c) refl
+      below_same : (c : Cell) → is_past start c ≡ true → is_lt (cell_cmp c m.cell) ≡ true → is_same old new c ≡ true
+      below_same c up low = by_test (is_past last c) refl
         where
-          by_test : (b : Bool) → is_above last c ≡ b → is_same old new c ≡ true
+          by_test : (b : Bool) → is_past last c ≡ b → is_same old new c ≡ true
           by_test true e = let r = next.between c e low in ap (λ o. same_mark o (new c)) r.0 ∙ ap (same_mark None) r.1
           by_test false e = still.same c up e
 
@@ -209,6 +209,6 @@ module _ (old new : Cell → Option Mark) (old_alike : (c d : Cell) → id_of 4 
           at_cell : (c : Cell) → id_of 4 c ≡ id_of 4 m.cell → is_same old new c ≡ true
           at_cell c e = ap (λ o. same_mark o (new c)) (old_alike c m.cell e) ∙ (ap (same_mark (old m.cell)) (new_alike c m.cell e) ∙ (marks_same ∙ not_false (same_mark m.old m.new) h))
 
-          by_ids : (c : Cell) → is_above start c ≡ true → (b : Bool) → is_lt (cell_cmp c m.cell) ≡ b → is_lt (cell_cmp m.cell c) ≡ false → is_same old new c ≡ true
+          by_ids : (c : Cell) → is_past start c ≡ true → (b : Bool) → is_lt (cell_cmp c m.cell) ≡ b → is_lt (cell_cmp m.cell c) ≡ false → is_same old new c ≡ true
           by_ids c up true e down = below_same c up e
           by_ids c up false e down = let a = not_lt_ids c m.cell e in let b = not_lt_ids m.cell c down in at_cell c (omega arith)

@@ -16,7 +16,7 @@ use Rattle.sg_versions.specs.declared.version.Version.{Version}
 use Rattle.sg_versions.specs.Versions.{visible, written, change_at}
 use Rattle.sg_versions.specs.Writers.{writer_of}
 use Rattle.sg_versions.proofs.Indexes.{lookup_written}
-use Rattle.sg_cellrows.specs.CellTable.{CellKey, CellRow, cell_cmp, cell_key_cmp, version_at, is_above}
+use Rattle.sg_cellrows.specs.CellTable.{CellKey, CellRow, cell_cmp, cell_key_cmp, version_at, is_past}
 use Rattle.sg_stores.specs.Agreement.{mark_at}
 use Rattle.sg_cellrows.proofs.NextCells.{cell_key_total}
 use Rattle.sg_locks.proofs.GrantLaws.{is_eq-nat_cmp}
@@ -36,8 +36,8 @@ module _ (s row : ℕ) (list : List Entry) (old : List CellRow) where
 
   -- the moved cells that aren't above the last are written
   pub record IsPart (last : Option Cell) (now : List CellRow) : Type 0 where
-    pub each : (c : Cell) (j : ℕ) → version_at now (c, j) ≡ cond (eqb row j && (not (is_above last c) && not (still c))) (after c j) (version_at old (c, j))
-    pub free : (c : Cell) → is_above last c ≡ false → still c ≡ false → IsFree s (version_at old (c, row))
+    pub each : (c : Cell) (j : ℕ) → version_at now (c, j) ≡ cond (eqb row j && (not (is_past last c) && not (still c))) (after c j) (version_at old (c, j))
+    pub free : (c : Cell) → is_past last c ≡ false → still c ≡ false → IsFree s (version_at old (c, row))
     pub keys : keys_of now ≡ keys_of old
 
   and_none : (a b : Bool) → (a && (false && b)) ≡ false
@@ -53,26 +53,26 @@ module _ (s row : ℕ) (list : List Entry) (old : List CellRow) where
 
   module _ (last : Option Cell) (now : List CellRow) (part : IsPart last now) where
     -- above the last all is as it was
-    as_before : (c : Cell) (j : ℕ) → is_above last c ≡ true → version_at now (c, j) ≡ version_at old (c, j)
+    as_before : (c : Cell) (j : ℕ) → is_past last c ≡ true → version_at now (c, j) ≡ version_at old (c, j)
     as_before c j up =
         part.each c j ∙ ap (λ b. cond b (after c j) (version_at old (c, j))) (ap (λ b. eqb row j && (not b && not (still c))) up ∙ and_none (eqb row j) (not (still c)))
 
-    still_before : (c : Cell) → is_above last c ≡ true → is_same (mark_seen now s row) (mark_at list) c ≡ still c
+    still_before : (c : Cell) → is_past last c ≡ true → is_same (mark_seen now s row) (mark_at list) c ≡ still c
     still_before c up = ap (λ o. same_mark (visible s o) (mark_at list c)) (as_before c row up)
 
-    pub part_last : ((c : Cell) → is_above last c ≡ true → is_same (mark_seen now s row) (mark_at list) c ≡ true) → AreCellsWritten s row list old now
-    part_last none = record { each = each; free = λ c m. free c m (is_above last c) refl; keys = part.keys }
+    pub part_last : ((c : Cell) → is_past last c ≡ true → is_same (mark_seen now s row) (mark_at list) c ≡ true) → AreCellsWritten s row list old now
+    part_last none = record { each = each; free = λ c m. free c m (is_past last c) refl; keys = part.keys }
       where
-        by_test : (c : Cell) (j : ℕ) (b : Bool) → is_above last c ≡ b → (eqb row j && (not b && not (still c))) ≡ (eqb row j && not (still c))
+        by_test : (c : Cell) (j : ℕ) (b : Bool) → is_past last c ≡ b → (eqb row j && (not b && not (still c))) ≡ (eqb row j && not (still c))
         by_test c j false e = refl
         by_test c j true e =
             let same : still c ≡ true = sym (still_before c e) ∙ none c e in
             ap (λ b. eqb row j && (false && not b)) same ∙ sym (ap (λ b. eqb row j && not b) same)
 
         each : (c : Cell) (j : ℕ) → version_at now (c, j) ≡ cond (eqb row j && not (still c)) (after c j) (version_at old (c, j))
-        each c j = part.each c j ∙ ap (λ b. cond b (after c j) (version_at old (c, j))) (by_test c j (is_above last c) refl)
+        each c j = part.each c j ∙ ap (λ b. cond b (after c j) (version_at old (c, j))) (by_test c j (is_past last c) refl)
 
-        free : (c : Cell) → still c ≡ false → (b : Bool) → is_above last c ≡ b → IsFree s (version_at old (c, row))
+        free : (c : Cell) → still c ≡ false → (b : Bool) → is_past last c ≡ b → IsFree s (version_at old (c, row))
         free c m false e = part.free c e m
         free c m true e = absurd (true≢false (sym (none c e) ∙ (still_before c e ∙ m)))
 
@@ -84,7 +84,7 @@ module _ (s row : ℕ) (list : List Entry) (old : List CellRow) where
       moves = sym (still_before m.cell next.next.beyond) ∙ next.next.differs
 
       -- below the cell each moved one is written
-      below_still : (c : Cell) → is_above last c ≡ true → is_lt (cell_cmp c m.cell) ≡ true → still c ≡ true
+      below_still : (c : Cell) → is_past last c ≡ true → is_lt (cell_cmp c m.cell) ≡ true → still c ≡ true
       below_still c up low = sym (still_before c up) ∙ next.next.between c up low
 
       module _ (ready : AreFree s old list row) where
@@ -99,9 +99,9 @@ module _ (s row : ℕ) (list : List Entry) (old : List CellRow) where
 
         free_next : (c : Cell) → (b : Bool) → is_lt (cell_cmp c m.cell) ≡ b → is_lt (cell_cmp m.cell c) ≡ false → still c ≡ false → IsFree s (version_at old (c, row))
         free_next c false e down moved = let a = not_lt_ids m.cell c down in let b = not_lt_ids c m.cell e in free_at c (omega arith)
-        free_next c true e down moved = by_test (is_above last c) refl
+        free_next c true e down moved = by_test (is_past last c) refl
           where
-            by_test : (b : Bool) → is_above last c ≡ b → IsFree s (version_at old (c, row))
+            by_test : (b : Bool) → is_past last c ≡ b → IsFree s (version_at old (c, row))
             by_test false f = part.free c f moved
             by_test true f = absurd (true≢false (sym (below_still c f e) ∙ moved))
 
@@ -135,9 +135,9 @@ module _ (s row : ℕ) (list : List Entry) (old : List CellRow) where
 
           below_it : (c : Cell) (j : ℕ) → is_lt (cell_cmp c m.cell) ≡ true → version_at new (c, j) ≡ cond (eqb row j && (not false && not (still c))) (after c j) (version_at old (c, j))
           below_it c j low =
-              elsewhere c j (apart_ids c (λ e. let l = lt_ids c m.cell low in omega (arith, e, l))) ∙ (part.each c j ∙ ap (λ b. cond b (after c j) (version_at old (c, j))) (by_test (is_above last c) refl))
+              elsewhere c j (apart_ids c (λ e. let l = lt_ids c m.cell low in omega (arith, e, l))) ∙ (part.each c j ∙ ap (λ b. cond b (after c j) (version_at old (c, j))) (by_test (is_past last c) refl))
             where
-              by_test : (b : Bool) → is_above last c ≡ b → (eqb row j && (not b && not (still c))) ≡ (eqb row j && (not false && not (still c)))
+              by_test : (b : Bool) → is_past last c ≡ b → (eqb row j && (not b && not (still c))) ≡ (eqb row j && (not false && not (still c)))
               by_test false e = refl
               by_test true e =
                   let same : still c ≡ true = below_still c e low in

@@ -15,7 +15,7 @@ use Rattle.sg_plain.specs.declared.statements.Statement.{Statement}
 use Rattle.sg_plain.specs.declared.statements.Statement.TheVariants.{Insert, Update, Delete, Get, Select, Plan, Filter, DeleteWhere}
 use Rattle.sg_rows.specs.Table.{TableRow}
 use Rattle.sg_pages.specs.Stored.{first_past}
-use Rattle.sg_cellrows.specs.CellTable.{CellRow, cell_cmp, cell_key, cell_key_cmp, version_at, is_above}
+use Rattle.sg_cellrows.specs.CellTable.{CellRow, cell_cmp, cell_key, cell_key_cmp, version_at, is_past}
 use Rattle.sg_trace.specs.Laws.{AreSettings}
 use Rattle.sg_trace.specs.Keys.{meets, next_key}
 use Rattle.sg_trace.specs.Needs.{Need, Lock, New, cells_in, cells_at, insert_needs, edit_needs, removal_needs, write_needs}
@@ -63,7 +63,7 @@ IsCellMet grants s index row c = IsSome (version_at index (c, row)) × IsWriteHe
 -- the moved cells of a row up to a cell are held; once there are any, so is the row, at least to be read
 pub record IsRowBehind (grants : List (Grant Key)) (s : ℕ) (index : List CellRow) (row : ℕ) (list : List Entry) (above : Option Cell) : Type 0 where
   pub row_held : IfSome above (λ _. holds_where (meets S) grants s (key.Row row) ≡ true)
-  pub cells_held : (c : Cell) → IsCode 4 c → is_above above c ≡ false → is_same (mark_seen index s row) (mark_at list) c ≡ false → IsCellMet grants s index row c
+  pub cells_held : (c : Cell) → IsCode 4 c → is_past above c ≡ false → is_same (mark_seen index s row) (mark_at list) c ≡ false → IsCellMet grants s index row c
 
 -- all of them are held
 abbrev pub AreCellsHeld : List (Grant Key) → ℕ → List CellRow → ℕ → List Entry → Type 0

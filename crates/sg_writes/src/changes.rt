@@ -86,7 +86,7 @@ impl Change {
         requires alone { IsAlone s rows.old.rows cells.old.rows self }
         ensures { Finishes s rows.old.rows cells.old.rows rows.new.rows cells.new.rows self result }
     {
-        let _sound = rows.present(0);
+        rows.in_order();
         let Change {
             statement,
             cells: list,

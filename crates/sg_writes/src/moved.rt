@@ -3,7 +3,7 @@ ghost use Rattle.std.specs.Map.{lookup_entry};
 ghost use Rattle.sg_cells.specs.Cells as paths;
 ghost use Rattle.sg_cells.specs.Lists.{IsApart};
 ghost use Rattle.sg_pages.specs.Sorted.{is_reached, first_place};
-ghost use Rattle.sg_cellrows.specs.CellTable.{cell_cmp, is_above, IsLeast};
+ghost use Rattle.sg_cellrows.specs.CellTable.{cell_cmp, is_past, IsLeast};
 ghost use Rattle.sg_stores.specs.Agreement.{mark_at};
 ghost use Rattle.sg_trace.specs.Needs.{same_mark};
 ghost use Rattle.sg_writes.specs.Moved.{mark_seen, IsNextMarks, IsMovedTo, is_same};
@@ -22,11 +22,11 @@ pub(crate) fn next_moved(
     above: Option<Cell>,
 ) -> Option<Marks>
     ensures next { IfSome result (IsMovedTo (mark_seen cells.now.rows s row) (mark_at list.now) above) }
-    ensures none { IfNone result ((c : paths.Cell) → is_above above c ≡ true → is_same (mark_seen cells.now.rows s row) (mark_at list.now) c ≡ true) }
+    ensures none { IfNone result ((c : paths.Cell) → is_past above c ≡ true → is_same (mark_seen cells.now.rows s row) (mark_at list.now) c ≡ true) }
 {
     let mut last = above;
     while let Some(next) = next_marks(cells, s, row, list, last) {
-        let _id = next.cell.id();
+        next.cell.in_bytes();
         if is_moved(&next) {
             return Some(next);
         }
@@ -63,9 +63,9 @@ fn next_marks(
     above: Option<Cell>,
 ) -> Option<Marks>
     ensures next { IfSome result (IsNextMarks (mark_seen cells.now.rows s row) (mark_at list.now) above) }
-    ensures none { IfNone result ((c : paths.Cell) → is_above above c ≡ true → (mark_seen cells.now.rows s row c ≡ None) × (mark_at list.now c ≡ None)) }
+    ensures none { IfNone result ((c : paths.Cell) → is_past above c ≡ true → (mark_seen cells.now.rows s row c ≡ None) × (mark_at list.now c ≡ None)) }
 {
-    let _apart = list.len();
+    list.in_order();
     match cells.cell_of(s, row, copy_of(&above)) {
         None => match next_of(list, above) {
             None => None,
@@ -104,7 +104,7 @@ fn lesser(
 ) -> Marks
     requires apart { IsApart list.now }
     requires seen { IsLeast (mark_seen cells.now.rows s row) above seen }
-    requires given { Some given ≡ lookup_entry (is_above above) list.now }
+    requires given { Some given ≡ lookup_entry (is_past above) list.now }
     ensures { IsNextMarks (mark_seen cells.now.rows s row) (mark_at list.now) above result }
 {
     if seen.0 < given.0 {
@@ -130,9 +130,9 @@ fn lesser(
 
 /// The first cell of the list above the given one, with its mark.
 fn next_of(list: &CellList, above: Option<Cell>) -> Option<(Cell, Mark)>
-    ensures { result ≡ lookup_entry (is_above above) list.now }
+    ensures { result ≡ lookup_entry (is_past above) list.now }
 {
-    let _apart = list.len();
+    list.in_order();
     match above {
         None => list.at(0),
         Some(cell) => first_past(list.as_slice(), cell),
@@ -141,7 +141,7 @@ fn next_of(list: &CellList, above: Option<Cell>) -> Option<(Cell, Mark)>
 
 fn first_past(list: &[(Cell, Mark)], cell: Cell) -> Option<(Cell, Mark)>
     requires { IsApart list.now }
-    ensures { result ≡ lookup_entry (is_above (Some cell)) list.now }
+    ensures { result ≡ lookup_entry (is_past (Some cell)) list.now }
 {
     let at = place_past(list, cell);
     if at < list.len() {

@@ -143,7 +143,7 @@ fn need_of_removals(
     ensures passed { AreRowsBehind locks.now.grants s cells.now.rows list.now selected.now place.new }
 {
     let _count = selected.len();
-    let _rising = rows.first_key();
+    rows.in_order();
     while let Some(row) = selected.at(place.row) {
         let act = need_of_removal(s, *row, list, rows, cells, locks, &mut place.cell);
         if act.is_some() {
@@ -170,7 +170,7 @@ fn need_of_removal(
     ensures none { IfNone result (IsRowHeld locks.now.grants s cells.now.rows list.now row) }
     ensures passed { IsRowBehind locks.now.grants s cells.now.rows row list.now above.new }
 {
-    let _rising = rows.first_key();
+    rows.in_order();
     if !is_met(locks, s, &Key::Row(row), Mode::X) {
         return Some(Act::Lock(Key::Row(row), Mode::X));
     }
@@ -215,8 +215,7 @@ fn need_of_cell(
     ensures code { IsCode 4 cell }
     ensures id { id_of 4 cell < 2 ^ 64 }
 {
-    let _level = cell.level();
-    let _id = cell.id();
+    cell.in_bytes();
     if !cells.present((cell, row)) {
         let next = cells.next_key((cell, row));
         return Some(put_below(s, locks, Key::Cell(cell, row), next));

@@ -2,7 +2,6 @@ ghost use Rattle.std.specs.Prelude.{◌≡◌, ◌==◌, IfSome, IsSome, ◌⊎�
 ghost use Rattle.std.specs.List.{list_any};
 ghost use Rattle.std.specs.BTreeMap.{is_at};
 ghost use Rattle.sg_shape.specs.Sound.{IsSound};
-ghost use Rattle.sg_cells.specs.Cells.{IsCode, id_of};
 ghost use Rattle.sg_pages.specs.Stored.{HasRisingKeys};
 ghost use Rattle.sg_versions.specs.Versions.{visible, written, change_at};
 ghost use Rattle.sg_versions.specs.Writers.{writer_of};
@@ -99,7 +98,7 @@ fn write_cells(s: Session, row: u32, list: &CellList, cells: &mut CellRows)
 {
     let mut last = None;
     while let Some(next) = next_moved(cells, s, row, list, last) {
-        let _id = id_of(next.cell);
+        next.cell.in_bytes();
         write_cell(s, row, next.cell, next.new, cells);
         last = Some(next.cell);
     }
@@ -111,15 +110,6 @@ fn write_cell(s: Session, row: u32, cell: Cell, mark: Option<Mark>, cells: &mut 
     ensures rows { cells.new.rows ≡ change_at (is_at (cell_key_cmp (cell, row))) (written s mark) cells.old.rows }
     ensures rising { HasRisingKeys cell_key_cmp cells.old.rows }
 {
-    let _rising = cells.present((cell, row));
+    cells.rising();
     cells.write(s, (cell, row), mark);
-}
-
-/// The cell's id.
-fn id_of(cell: Cell) -> u64
-    ensures id { result ≡ id_of 4 cell }
-    ensures code { IsCode 4 cell }
-{
-    let _level = cell.level();
-    cell.id()
 }

@@ -5,6 +5,6 @@ use Rattle.sg_engine.proofs.queries.offer.Goals as goal
 
 pub push-requires : goal.push-requires
 push-requires c = record {
-  above = goes_last c.args.job.now.items c.args.key c.as_slice-all_rise.ensures.rows c.requires.above;
+  above = goes_last c.args.job.now.items c.args.key c.in_order.ensures c.requires.above;
   sound = subst IsSound (sym c.in_ok-copy.ensures) c.in-Some.ensures.sound;
 }

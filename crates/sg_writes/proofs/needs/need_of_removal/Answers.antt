@@ -8,4 +8,4 @@ need_of_cells-requires-clause-held c = read_held c.args.locks.now.grants c.args.
 
 pub returns-clause-act : goal.returns-clause-act
 returns-clause-act c = λ w stores empty.
-    removal_cells c.args.locks.now.grants c.args.s c.args.rows.now.rows c.args.cells.now.rows w stores c.args.row c.args.list.now (sym c.is_met.ensures ∙ c.if-not-is_met.false) c.first_key-rising.ensures.rising empty c.need_of_cells.result c.need_of_cells.ensures.act c.need_of_cells.ensures.none
+    removal_cells c.args.locks.now.grants c.args.s c.args.rows.now.rows c.args.cells.now.rows w stores c.args.row c.args.list.now (sym c.is_met.ensures ∙ c.if-not-is_met.false) c.in_order.ensures.rising empty c.need_of_cells.result c.need_of_cells.ensures.act c.need_of_cells.ensures.none

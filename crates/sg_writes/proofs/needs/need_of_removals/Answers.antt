@@ -10,7 +10,7 @@ use Rattle.sg_writes.proofs.needs.need_of_removals.Goals as goal
 
 pub returns-then-is_some-clause-act : goal.returns-then-is_some-clause-act
 returns-then-is_some-clause-act c = λ w stores empty.
-    removals_found c.args.locks.now.grants c.args.s c.args.rows.now.rows c.args.cells.now.rows w stores c.args.list.now c.first_key-rising.ensures.rising empty c.args.selected.now c.loop-row.place.row c.loop-row.invariant.rows_held _ (sym c.in-Some.ensures)
+    removals_found c.args.locks.now.grants c.args.s c.args.rows.now.rows c.args.cells.now.rows w stores c.args.list.now c.in_order.ensures.rising empty c.args.selected.now c.loop-row.place.row c.loop-row.invariant.rows_held _ (sym c.in-Some.ensures)
     c.need_of_removal-act.result (sym c.is_some.ensures ∙ c.if-is_some.true) (c.need_of_removal-act.ensures.act w stores empty)
 
 pub overflow_add-place : goal.overflow_add-place
@@ -34,5 +34,5 @@ loop-row-preserved c = record {
 
 pub returns-clause-act : goal.returns-clause-act
 returns-clause-act c = λ w stores empty.
-    removals_last c.args.locks.now.grants c.args.s c.args.rows.now.rows c.args.cells.now.rows w stores c.args.list.now c.first_key-rising.ensures.rising empty c.args.selected.now c.loop-row.place.row c.loop-row.invariant.rows_held
+    removals_last c.args.locks.now.grants c.args.s c.args.rows.now.rows c.args.cells.now.rows w stores c.args.list.now c.in_order.ensures.rising empty c.args.selected.now c.loop-row.place.row c.loop-row.invariant.rows_held
     (sym c.at.ensures ∙ ap option_copied c.in_default.is)

@@ -14,4 +14,4 @@ returns-clause-run g c =
 pub returns-clause-job : goal.returns-clause-job
 returns-clause-job g c =
     subst (λ (v : Shown). EndsJob c.args.s v (outside c.rollback.new.self)) c.self.view_is
-    (ends_out c.args.s c.number-number.ensures.range c.self.inside.shared c.rollback.new.self c.rollback.ensures.job)
+    (ends_out c.args.s c.in_range.ensures c.self.inside.shared c.rollback.new.self c.rollback.ensures.job)

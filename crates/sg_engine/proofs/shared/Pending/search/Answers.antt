@@ -15,7 +15,7 @@ returns-then-is_empty g c =
     let st = c.args.self.now.statement in
     let found = c.in_ok-found.found in
     let job = c.in_ok-job.job in
-    let are : AreRows seen = seen_are_rows c.args.name.session c.args.rows.now.rows c.present-sound.ensures.rising c.present-sound.ensures.sound in
+    let are : AreRows seen = seen_are_rows c.args.name.session c.args.rows.now.rows c.in_order.ensures.rising c.in_order.ensures.sound in
     let is = c.in_ok-found.ensures c.requires.agree in
     let unfiltered = sym c.is_filtered.ensures ∙ c.if-is_filtered.false in
     let left : AreLeft settings seen st job.items = left_are settings seen st found job.items c.requires.query are c.as_slice.ensures.rows is c.in_ok-job.ensures.items unfiltered in
@@ -32,7 +32,7 @@ returns g c =
     let st = c.args.self.now.statement in
     let found = c.in_ok-found.found in
     let job = c.in_ok-job.job in
-    let are : AreRows seen = seen_are_rows c.args.name.session c.args.rows.now.rows c.present-sound.ensures.rising c.present-sound.ensures.sound in
+    let are : AreRows seen = seen_are_rows c.args.name.session c.args.rows.now.rows c.in_order.ensures.rising c.in_order.ensures.sound in
     let is = c.in_ok-found.ensures c.requires.agree in
     let unfiltered = sym c.is_filtered.ensures ∙ c.if-is_filtered.false in (
       refl,

@@ -20,8 +20,8 @@ open_one-requires-clause-fits c =
     let stage : Stage = record { settings = v.settings; opening = v.opening; priorities = v.priorities } in
     let between : IsBetween (shown_of v.settings v.opening v.priorities v.trace.items v.journal.items v.seats.items) c.args.s = subst (λ (x : Shown). IsBetween x c.args.s) (sym c.self.view_is) c.requires.between in
     let h = asked_most stage v.trace.items v.journal.items v.seats.items v.rows.rows v.cells.rows v.locks.grants v.waits v.live v.trace.spare v.journal.spare c.self.invariant
-    c.args.s c.index.result c.number-number.ensures.range c.index.ensures.below c.index.ensures.place c.index_mut-seat.result.now c.index_mut-seat.ensures.value between in
-    let fits = c.room-fits.ensures.fits in
+    c.args.s c.index.result c.in_range.ensures c.index.ensures.below c.index.ensures.place c.index_mut-seat.result.now c.index_mut-seat.ensures.value between in
+    let fits = c.countable.ensures in
     let room = c.in-Ok.ensures.spare in
     let items = ap (λ (ls : List Label). length ls) c.reserve.ensures.items in
     omega (arith, h, fits, room, items)
@@ -34,7 +34,7 @@ invariant_of-self-2 c =
     let room = c.push_reserved.ensures.spare in
     let reserved = c.in-Ok.ensures.spare in
     ask_engine stage v.trace.items v.journal.items v.seats.items v.rows.rows v.cells.rows v.locks.grants v.waits v.live v.trace.spare v.journal.spare c.self.invariant
-    c.args.s c.index.result c.number-number.ensures.range c.index.ensures.below c.index.ensures.place c.index_mut-seat.result.now c.index_mut-seat.ensures.value
+    c.args.s c.index.result c.in_range.ensures c.index.ensures.below c.index.ensures.place c.index_mut-seat.result.now c.index_mut-seat.ensures.value
     c.open_one.new.seat c.args.statement c.requires.sound (opened_seat c.args.statement c.index_mut-seat.result.now c.open_one.new.seat c.in_ok-number.ensures.ok) c.push_reserved.new.self.items c.in_ok-number.number c.push_reserved.new.self.spare
     (c.push_reserved.ensures.items ∙ ap (λ (ls : List Label). ls ++ label.Ask c.args.s c.in_ok-number.number ∷ []) c.reserve.ensures.items)
     c.in_ok-number.ensures.number between (omega (arith, room, reserved)) c.in_ok-number.ensures.ok
@@ -49,8 +49,8 @@ returns-clause-ok c = record {
       let new : Shown = shown_of v.settings v.opening v.priorities c.push_reserved.new.self.items v.journal.items (set v.seats.items c.index.result c.open_one.new.seat) in
       let between : IsBetween old c.args.s = subst (λ (x : Shown). IsBetween x c.args.s) (sym c.self.view_is) c.requires.between in
       let within = within_is stage v.trace.items v.journal.items v.seats.items v.rows.rows v.cells.rows v.locks.grants v.waits v.live v.trace.spare v.journal.spare c.self.invariant
-      c.args.s c.index.result c.number-number.ensures.range c.index.ensures.below c.index.ensures.place c.index_mut-seat.result.now c.index_mut-seat.ensures.value in
-      let shown = ask_shown stage v.trace.items v.journal.items v.seats.items c.args.s c.index.result c.number-number.ensures.range within c.index.ensures.place c.index_mut-seat.result.now c.index_mut-seat.ensures.value
+      c.args.s c.index.result c.in_range.ensures c.index.ensures.below c.index.ensures.place c.index_mut-seat.result.now c.index_mut-seat.ensures.value in
+      let shown = ask_shown stage v.trace.items v.journal.items v.seats.items c.args.s c.index.result c.in_range.ensures within c.index.ensures.place c.index_mut-seat.result.now c.index_mut-seat.ensures.value
       c.open_one.new.seat c.args.statement c.requires.sound (opened_seat c.args.statement c.index_mut-seat.result.now c.open_one.new.seat c.in_ok-number.ensures.ok) c.push_reserved.new.self.items c.in_ok-number.number
       (c.push_reserved.ensures.items ∙ ap (λ (ls : List Label). ls ++ label.Ask c.args.s c.in_ok-number.number ∷ []) c.reserve.ensures.items)
       c.in_ok-number.ensures.number es (subst (IsRunOf es) (sym c.self.view_is) run) between in
@@ -63,7 +63,7 @@ returns-clause-jobs c =
     let stage : Stage = record { settings = v.settings; opening = v.opening; priorities = v.priorities } in
     let d = c.index_mut-seat.result.now in
     let within = within_is stage v.trace.items v.journal.items v.seats.items v.rows.rows v.cells.rows v.locks.grants v.waits v.live v.trace.spare v.journal.spare c.self.invariant
-    c.args.s c.index.result c.number-number.ensures.range c.index.ensures.below c.index.ensures.place d c.index_mut-seat.ensures.value in
+    c.args.s c.index.result c.in_range.ensures c.index.ensures.below c.index.ensures.place d c.index_mut-seat.ensures.value in
     let at = seat_at v.seats.items c.index.result within c.args.s c.index.ensures.place d c.index_mut-seat.ensures.value in
     let between : IsBetween (shown_of v.settings v.opening v.priorities v.trace.items v.journal.items v.seats.items) c.args.s = subst (λ (x : Shown). IsBetween x c.args.s) (sym c.self.view_is) c.requires.between in
     let none : HasNoneOpen (seat_of d).running = subst (λ (r : Seated). HasNoneOpen r.running) at between in
@@ -77,7 +77,7 @@ invariant_of-self-in_err-number c =
     let stage : Stage = record { settings = v.settings; opening = v.opening; priorities = v.priorities } in
     let d = c.index_mut-seat.result.now in
     let within = within_is stage v.trace.items v.journal.items v.seats.items v.rows.rows v.cells.rows v.locks.grants v.waits v.live v.trace.spare v.journal.spare c.self.invariant
-    c.args.s c.index.result c.number-number.ensures.range c.index.ensures.below c.index.ensures.place d c.index_mut-seat.ensures.value in
+    c.args.s c.index.result c.in_range.ensures c.index.ensures.below c.index.ensures.place d c.index_mut-seat.ensures.value in
     let at = seat_at v.seats.items c.index.result within c.args.s c.index.ensures.place d c.index_mut-seat.ensures.value in
     let between : IsBetween (shown_of v.settings v.opening v.priorities v.trace.items v.journal.items v.seats.items) c.args.s = subst (λ (x : Shown). IsBetween x c.args.s) (sym c.self.view_is) c.requires.between in
     let none : HasNoneOpen (seat_of d).running = subst (λ (r : Seated). HasNoneOpen r.running) at between in

@@ -12,7 +12,7 @@ returns-clause-left c = λ come.
     let stage : Stage = record { settings = v.settings; opening = v.opening; priorities = v.priorities } in
     let d = c.index-2.result.now in
     let within = within_is stage v.trace.items v.journal.items v.seats.items v.rows.rows v.cells.rows v.locks.grants v.waits v.live v.trace.spare v.journal.spare c.self.invariant
-    c.args.s c.index.result c.number-number.ensures.range c.index.ensures.below c.index.ensures.place d c.index-2.ensures in
+    c.args.s c.index.result c.in_range.ensures c.index.ensures.below c.index.ensures.place d c.index-2.ensures in
     subst (λ (y : Shown). HasNoneLeft y c.args.s) c.self.view_is
     (writes_refined stage v.trace.items v.journal.items v.seats.items v.rows.rows v.cells.rows v.locks.grants v.waits v.live v.trace.spare v.journal.spare c.self.invariant
-    c.args.s c.index.result c.number-number.ensures.range within c.index.ensures.place d c.index-2.ensures (sym c.is_writing.ensures ∙ come))
+    c.args.s c.index.result c.in_range.ensures within c.index.ensures.place d c.index-2.ensures (sym c.is_writing.ensures ∙ come))

@@ -12,4 +12,4 @@ returns c =
     let wish = subst (λ (x : Shown). IsWish x c.args.s c.args.key.now c.args.mode) (sym c.self.view_is) c.requires in
     subst (λ (x : Shown). AreInTheWay x c.args.s c.args.key.now c.args.mode c.blockers-blockers.result) c.self.view_is
     (in_the_way stage v.trace.items v.journal.items v.seats.items v.rows.rows v.cells.rows v.locks.grants v.waits v.live v.trace.spare v.journal.spare c.self.invariant
-    c.args.s c.args.key.now c.args.mode wish c.blockers-blockers.result c.is_empty-all_sessions.ensures.sessions c.blockers-blockers.ensures.blockers)
+    c.args.s c.args.key.now c.args.mode wish c.blockers-blockers.result c.all_sessions.ensures c.blockers-blockers.ensures.blockers)

@@ -2,7 +2,7 @@ use Rattle.std.specs.Prelude.{IfSome}
 use Rattle.std.proofs.Common.{◌≡◌, ◌∙◌, None, sym, ap, subst}
 use Rattle.sg_trace.specs.Traces.{Stage}
 use Rattle.sg_engine.specs.Shown.{Shown, Refining, job_in}
-use Rattle.sg_engine.specs.Nexts.{IsNext, WaitsForNone, HasReadAll}
+use Rattle.sg_engine.specs.Nexts.{IsNextAct, WaitsForNone, HasReadAll}
 use Rattle.sg_engine.specs.Acting.{act_of}
 use Rattle.sg_engine.specs.Steps.{HasAllMet}
 use Rattle.sg_engine.proofs.Begins.{within_is}
@@ -17,7 +17,7 @@ act_at-requires-clause-writes c =
     let stage : Stage = record { settings = v.settings; opening = v.opening; priorities = v.priorities } in
     let d = c.index_mut.result.now in
     let within = within_is stage v.trace.items v.journal.items v.seats.items v.rows.rows v.cells.rows v.locks.grants v.waits v.live v.trace.spare v.journal.spare c.self.invariant
-    c.args.s c.index.result c.number-number.ensures.range c.index.ensures.below c.index.ensures.place d c.index_mut.ensures.value in
+    c.args.s c.index.result c.in_range.ensures c.index.ensures.below c.index.ensures.place d c.index_mut.ensures.value in
     let at = job_at v.seats.items c.index.result within c.args.s c.index.ensures.place d c.index_mut.ensures.value in
     has_change d (ap (λ (r : Refining). r.writes) (sym at) ∙ (ap (λ (x : Shown). (job_in x.jobs c.args.s).writes) c.self.view_is ∙ c.requires.writes))
 
@@ -27,9 +27,9 @@ act_at-requires-clause-behind c =
     let stage : Stage = record { settings = v.settings; opening = v.opening; priorities = v.priorities } in
     let d = c.index_mut.result.now in
     let within = within_is stage v.trace.items v.journal.items v.seats.items v.rows.rows v.cells.rows v.locks.grants v.waits v.live v.trace.spare v.journal.spare c.self.invariant
-    c.args.s c.index.result c.number-number.ensures.range c.index.ensures.below c.index.ensures.place d c.index_mut.ensures.value in
+    c.args.s c.index.result c.in_range.ensures c.index.ensures.below c.index.ensures.place d c.index_mut.ensures.value in
     behinds stage v.trace.items v.journal.items v.seats.items v.rows.rows v.cells.rows v.locks.grants v.waits v.live v.trace.spare v.journal.spare c.self.invariant
-    c.args.s c.index.result c.number-number.ensures.range within c.index.ensures.place d c.index_mut.ensures.value
+    c.args.s c.index.result c.in_range.ensures within c.index.ensures.place d c.index_mut.ensures.value
 
 pub invariant_of-self : goal.invariant_of-self
 invariant_of-self c =
@@ -39,9 +39,9 @@ invariant_of-self c =
     let x = c.act_at.new.seat in
     let change = c.act_at.ensures.seat in
     let within = within_is stage v.trace.items v.journal.items v.seats.items v.rows.rows v.cells.rows v.locks.grants v.waits v.live v.trace.spare v.journal.spare c.self.invariant
-    c.args.s c.index.result c.number-number.ensures.range c.index.ensures.below c.index.ensures.place d c.index_mut.ensures.value in
+    c.args.s c.index.result c.in_range.ensures c.index.ensures.below c.index.ensures.place d c.index_mut.ensures.value in
     let own = own_now stage v.trace.items v.journal.items v.seats.items v.rows.rows v.cells.rows v.locks.grants v.waits v.live v.trace.spare v.journal.spare c.self.invariant
-    c.args.s c.index.result c.number-number.ensures.range within c.index.ensures.place d c.index_mut.ensures.value in
+    c.args.s c.index.result c.in_range.ensures within c.index.ensures.place d c.index_mut.ensures.value in
     swap_engine v.seats.items c.index.result d x c.index_mut.ensures.value (placed_seat v.locks.grants c.args.s v.rows.rows v.cells.rows d x change) (placed_job v.locks.grants c.args.s v.rows.rows v.cells.rows d x change)
     stage v.trace.items v.journal.items v.rows.rows v.cells.rows v.locks.grants v.waits v.live v.trace.spare v.journal.spare c.self.invariant c.args.s within c.index.ensures.place
     (placed_kept stage c.self.invariant.events v.rows.rows v.cells.rows v.locks.grants c.args.s d x change own)
@@ -62,12 +62,12 @@ returns-clause-act c =
     let stage : Stage = record { settings = v.settings; opening = v.opening; priorities = v.priorities } in
     let d = c.index_mut.result.now in
     let within = within_is stage v.trace.items v.journal.items v.seats.items v.rows.rows v.cells.rows v.locks.grants v.waits v.live v.trace.spare v.journal.spare c.self.invariant
-    c.args.s c.index.result c.number-number.ensures.range c.index.ensures.below c.index.ensures.place d c.index_mut.ensures.value in
+    c.args.s c.index.result c.in_range.ensures c.index.ensures.below c.index.ensures.place d c.index_mut.ensures.value in
     let at = job_at v.seats.items c.index.result within c.args.s c.index.ensures.place d c.index_mut.ensures.value in
     let has = has_change d (ap (λ (r : Refining). r.writes) (sym at) ∙ (ap (λ (x : Shown). (job_in x.jobs c.args.s).writes) c.self.view_is ∙ c.requires.writes)) in
-    subst (λ (y : Shown). IfSome c.act_at.result (λ act. IsNext y c.args.s (act_of act))) c.self.view_is
+    subst (λ (y : Shown). IfSome c.act_at.result (λ act. IsNextAct y c.args.s (act_of act))) c.self.view_is
     (acts stage v.trace.items v.journal.items v.seats.items v.rows.rows v.cells.rows v.locks.grants v.waits v.live v.trace.spare v.journal.spare c.self.invariant
-    c.args.s c.index.result c.number-number.ensures.range within c.index.ensures.place d c.index_mut.ensures.value
+    c.args.s c.index.result c.in_range.ensures within c.index.ensures.place d c.index_mut.ensures.value
     (subst (λ (y : Shown). WaitsForNone y c.args.s) (sym c.self.view_is) c.requires.free) (subst (λ (y : Shown). HasReadAll y c.args.s) (sym c.self.view_is) c.requires.read) has
     c.act_at.result c.act_at.ensures.act)
 
@@ -77,11 +77,11 @@ returns-clause-none c =
     let stage : Stage = record { settings = v.settings; opening = v.opening; priorities = v.priorities } in
     let d = c.index_mut.result.now in
     let within = within_is stage v.trace.items v.journal.items v.seats.items v.rows.rows v.cells.rows v.locks.grants v.waits v.live v.trace.spare v.journal.spare c.self.invariant
-    c.args.s c.index.result c.number-number.ensures.range c.index.ensures.below c.index.ensures.place d c.index_mut.ensures.value in
+    c.args.s c.index.result c.in_range.ensures c.index.ensures.below c.index.ensures.place d c.index_mut.ensures.value in
     let at = job_at v.seats.items c.index.result within c.args.s c.index.ensures.place d c.index_mut.ensures.value in
     let has = has_change d (ap (λ (r : Refining). r.writes) (sym at) ∙ (ap (λ (x : Shown). (job_in x.jobs c.args.s).writes) c.self.view_is ∙ c.requires.writes)) in
     subst (λ (y : Shown). c.act_at.result ≡ None → HasAllMet y c.args.s) c.self.view_is
     (all_met stage v.trace.items v.journal.items v.seats.items v.rows.rows v.cells.rows v.locks.grants v.waits v.live v.trace.spare v.journal.spare c.self.invariant
-    c.args.s c.index.result c.number-number.ensures.range within c.index.ensures.place d c.index_mut.ensures.value
+    c.args.s c.index.result c.in_range.ensures within c.index.ensures.place d c.index_mut.ensures.value
     (subst (λ (y : Shown). WaitsForNone y c.args.s) (sym c.self.view_is) c.requires.free) (subst (λ (y : Shown). HasReadAll y c.args.s) (sym c.self.view_is) c.requires.read) has
     c.act_at.result c.act_at.ensures.act)

@@ -14,12 +14,12 @@ invariant_of-result g c =
     let stage : Stage = record { settings = c.args.settings; opening = opening; priorities = c.args.priorities } in
     let staged : IsStage stage = record {
       settings = record { grid = c.check_grid.ensures; least = c.requires.least; most = c.requires.most };
-      rows = subst AreRows (sym c.in_ok-opening.ensures) c.as_slice-all_rise.ensures.rows;
-      priorities = c.check_priorities.ensures;
+      rows = subst AreRows (sym c.in_ok-opening.ensures) c.in_order.ensures;
+      priorities = c.in_range.ensures;
     } in
     opened_engine stage staged c.in_ok-loaded.loaded.rows.rows c.in_ok-loaded.loaded.cells.rows (c.in_ok-loaded.ensures.rows ∙ ap (λ (rows : Rows). map loaded_row rows) (sym c.in_ok-opening.ensures))
     (subst (λ (rows : Rows). AreLoaded c.args.settings rows c.in_ok-loaded.loaded.cells.rows) (sym c.in_ok-opening.ensures) c.in_ok-loaded.ensures.cells)
-    c.present-in_order.ensures.rising c.in_ok-loaded.ensures.codes c.in_ok-seats.seats.items c.in_ok-seats.ensures.length c.in_ok-seats.ensures.unused
+    c.rising.ensures c.in_ok-loaded.ensures.codes c.in_ok-seats.seats.items c.in_ok-seats.ensures.length c.in_ok-seats.ensures.unused
     c.new-trace.result.items c.new-trace.ensures.items c.new-journal.result.items c.new-journal.ensures.items c.new-locks.result.grants c.new-locks.ensures.grants c.new-waits.result c.new-waits.ensures
     0 c.new-trace.result.spare c.new-journal.result.spare refl
 
@@ -34,6 +34,6 @@ returns-clause-jobs g c = λ s. no_jobs c.in_ok-seats.seats.items c.in_ok-seats.
 pub returns-clause-staged : goal.returns-clause-staged
 returns-clause-staged g c = record {
   settings = record { grid = c.check_grid.ensures; least = c.requires.least; most = c.requires.most };
-  rows = subst AreRows (sym c.in_ok-opening.ensures) c.as_slice-all_rise.ensures.rows;
-  priorities = c.check_priorities.ensures;
+  rows = subst AreRows (sym c.in_ok-opening.ensures) c.in_order.ensures;
+  priorities = c.in_range.ensures;
 }

@@ -11,7 +11,7 @@ use Rattle.sg_trace.specs.Traces.{Stage}
 use Rattle.sg_trace.specs.Legal.{Puts}
 use Rattle.sg_engine.specs.Shown.{Shown, IsRunOf}
 use Rattle.sg_engine.specs.Inside.{job_of, shown_of}
-use Rattle.sg_engine.specs.Nexts.{IsNext, IsFree, HasNew}
+use Rattle.sg_engine.specs.Nexts.{IsNextAct, IsFree, HasNew}
 use Rattle.sg_engine.proofs.Begins.{live_most}
 use Rattle.sg_engine.proofs.Rooms.{jobs_same}
 use Rattle.sg_engine.proofs.GrantRuns.{cost_fits}
@@ -26,49 +26,49 @@ write_on-requires c =
     let v = c.self.inside in
     let stage : Stage = record { settings = v.settings; opening = v.opening; priorities = v.priorities } in
     let reserved = c.in_ok-reserve.ensures.spare in
-    let fits = c.room-fits.ensures.fits in
+    let fits = c.countable.ensures in
     let items : length c.reserve.new.self.items ≡ length v.trace.items = ap (λ (ls : List Label). length ls) c.reserve.ensures.items in
     cost_fits stage v.trace.items v.journal.items v.seats.items v.rows.rows v.cells.rows v.locks.grants v.waits v.live v.trace.spare v.journal.spare c.self.invariant
-    c.args.s c.index.result c.number-number.ensures.range c.index.ensures.below c.index.ensures.place c.index_mut.result.now c.index_mut.ensures.value c.reserve.new.self.spare (omega (arith, reserved)) (omega (arith, fits, items))
+    c.args.s c.index.result c.in_range.ensures c.index.ensures.below c.index.ensures.place c.index_mut.result.now c.index_mut.ensures.value c.reserve.new.self.spare (omega (arith, reserved)) (omega (arith, fits, items))
 
 pub put_key-requires : goal.put_key-requires
 put_key-requires c =
     let v = c.self.inside in
     let stage : Stage = record { settings = v.settings; opening = v.opening; priorities = v.priorities } in
     let old : Shown = shown_of v.settings v.opening v.priorities v.trace.items v.journal.items v.seats.items in
-    let next : IsNext old c.args.s (Puts c.args.key c.args.next c.args.mode) = subst (λ (x : Shown). IsNext x c.args.s (Puts c.args.key c.args.next c.args.mode)) (sym c.self.view_is) c.requires.next in
+    let next : IsNextAct old c.args.s (Puts c.args.key c.args.next c.args.mode) = subst (λ (x : Shown). IsNextAct x c.args.s (Puts c.args.key c.args.next c.args.mode)) (sym c.self.view_is) c.requires.next in
     let free : IsFree old c.args.s c.args.next RangeIN = subst (λ (x : Shown). IsFree x c.args.s c.args.next RangeIN) (sym c.self.view_is) c.requires.free in
     new_key stage v.trace.items v.journal.items v.seats.items v.rows.rows v.cells.rows v.locks.grants v.waits v.live v.trace.spare v.journal.spare c.self.invariant
-    c.args.s c.index.result c.number-number.ensures.range c.index.ensures.below c.index.ensures.place c.index_mut.result.now c.index_mut.ensures.value c.args.key c.args.next c.args.mode next free c.reserve-3.new.self c.reserve-4.new.self c.reserve-3.ensures.rows c.reserve-4.ensures.rows c.in_ok-reserve-3.ensures.spare c.in_ok-reserve-4.ensures.spare
+    c.args.s c.index.result c.in_range.ensures c.index.ensures.below c.index.ensures.place c.index_mut.result.now c.index_mut.ensures.value c.args.key c.args.next c.args.mode next free c.reserve-3.new.self c.reserve-4.new.self c.reserve-3.ensures.rows c.reserve-4.ensures.rows c.in_ok-reserve-3.ensures.spare c.in_ok-reserve-4.ensures.spare
 
 pub grant_reserved-requires-clause-unblocked : goal.grant_reserved-requires-clause-unblocked
 grant_reserved-requires-clause-unblocked c =
     let v = c.self.inside in
     let stage : Stage = record { settings = v.settings; opening = v.opening; priorities = v.priorities } in
     let old : Shown = shown_of v.settings v.opening v.priorities v.trace.items v.journal.items v.seats.items in
-    let next : IsNext old c.args.s (Puts c.args.key c.args.next c.args.mode) = subst (λ (x : Shown). IsNext x c.args.s (Puts c.args.key c.args.next c.args.mode)) (sym c.self.view_is) c.requires.next in
+    let next : IsNextAct old c.args.s (Puts c.args.key c.args.next c.args.mode) = subst (λ (x : Shown). IsNextAct x c.args.s (Puts c.args.key c.args.next c.args.mode)) (sym c.self.view_is) c.requires.next in
     let free : IsFree old c.args.s c.args.next RangeIN = subst (λ (x : Shown). IsFree x c.args.s c.args.next RangeIN) (sym c.self.view_is) c.requires.free in
     subst (λ (g : List (Grant Key)). IsUnblocked key_cmp g c.args.s c.args.key c.args.mode) (sym c.reserve-2.ensures.grants)
     (new_nobody stage v.trace.items v.journal.items v.seats.items v.rows.rows v.cells.rows v.locks.grants v.waits v.live v.trace.spare v.journal.spare c.self.invariant
-    c.args.s c.index.result c.number-number.ensures.range c.index.ensures.below c.index.ensures.place c.index_mut.result.now c.index_mut.ensures.value c.args.key c.args.next c.args.mode next free c.blockers.result c.is_empty-free.ensures.sessions c.blockers.ensures.blockers)
+    c.args.s c.index.result c.in_range.ensures c.index.ensures.below c.index.ensures.place c.index_mut.result.now c.index_mut.ensures.value c.args.key c.args.next c.args.mode next free c.blockers.result c.is_empty-free.ensures.sessions c.blockers.ensures.blockers)
 
 pub grant_reserved-requires-clause-not_held : goal.grant_reserved-requires-clause-not_held
 grant_reserved-requires-clause-not_held c =
     let v = c.self.inside in
     let stage : Stage = record { settings = v.settings; opening = v.opening; priorities = v.priorities } in
     let old : Shown = shown_of v.settings v.opening v.priorities v.trace.items v.journal.items v.seats.items in
-    let next : IsNext old c.args.s (Puts c.args.key c.args.next c.args.mode) = subst (λ (x : Shown). IsNext x c.args.s (Puts c.args.key c.args.next c.args.mode)) (sym c.self.view_is) c.requires.next in
+    let next : IsNextAct old c.args.s (Puts c.args.key c.args.next c.args.mode) = subst (λ (x : Shown). IsNextAct x c.args.s (Puts c.args.key c.args.next c.args.mode)) (sym c.self.view_is) c.requires.next in
     let free : IsFree old c.args.s c.args.next RangeIN = subst (λ (x : Shown). IsFree x c.args.s c.args.next RangeIN) (sym c.self.view_is) c.requires.free in
     subst (λ (g : List (Grant Key)). has_grant key_cmp g c.args.s c.args.key c.args.mode ≡ false) (sym c.reserve-2.ensures.grants)
     (new_not_held stage v.trace.items v.journal.items v.seats.items v.rows.rows v.cells.rows v.locks.grants v.waits v.live v.trace.spare v.journal.spare c.self.invariant
-    c.args.s c.index.result c.number-number.ensures.range c.index.ensures.below c.index.ensures.place c.index_mut.result.now c.index_mut.ensures.value c.args.key c.args.next c.args.mode next free)
+    c.args.s c.index.result c.in_range.ensures c.index.ensures.below c.index.ensures.place c.index_mut.result.now c.index_mut.ensures.value c.args.key c.args.next c.args.mode next free)
 
 pub invariant_of-self-2 : goal.invariant_of-self-2
 invariant_of-self-2 c =
     let v = c.self.inside in
     let stage : Stage = record { settings = v.settings; opening = v.opening; priorities = v.priorities } in
     let old : Shown = shown_of v.settings v.opening v.priorities v.trace.items v.journal.items v.seats.items in
-    let next : IsNext old c.args.s (Puts c.args.key c.args.next c.args.mode) = subst (λ (x : Shown). IsNext x c.args.s (Puts c.args.key c.args.next c.args.mode)) (sym c.self.view_is) c.requires.next in
+    let next : IsNextAct old c.args.s (Puts c.args.key c.args.next c.args.mode) = subst (λ (x : Shown). IsNextAct x c.args.s (Puts c.args.key c.args.next c.args.mode)) (sym c.self.view_is) c.requires.next in
     let free : IsFree old c.args.s c.args.next RangeIN = subst (λ (x : Shown). IsFree x c.args.s c.args.next RangeIN) (sym c.self.view_is) c.requires.free in
     let grant : Grant Key = record { session = c.args.s; key = c.args.key; mode = c.args.mode } in
     let adds = subst (λ (g : List (Grant Key)). AddsGrant key_cmp g c.grant_reserved.new.self.grants grant) c.reserve-2.ensures.grants c.grant_reserved.ensures.grants in
@@ -78,7 +78,7 @@ invariant_of-self-2 c =
     let room = c.push_reserved.ensures.spare in
     let reserved = c.in_ok-reserve.ensures.spare in
     put_engine stage v.trace.items v.journal.items v.seats.items v.rows.rows v.cells.rows v.locks.grants v.waits v.live v.trace.spare v.journal.spare c.self.invariant
-    c.args.s c.index.result c.number-number.ensures.range c.index.ensures.below c.index.ensures.place c.index_mut.result.now c.index_mut.ensures.value c.args.key c.args.next c.args.mode next free c.grant_reserved.new.self.grants adds c.put_key.new.rows.rows c.put_key.new.cells.rows has c.write_on.new.seat c.write_on.ensures c.push_reserved.new.self.items pushed c.push_reserved.new.self.spare (omega (arith, room, reserved))
+    c.args.s c.index.result c.in_range.ensures c.index.ensures.below c.index.ensures.place c.index_mut.result.now c.index_mut.ensures.value c.args.key c.args.next c.args.mode next free c.grant_reserved.new.self.grants adds c.put_key.new.rows.rows c.put_key.new.cells.rows has c.write_on.new.seat c.write_on.ensures c.push_reserved.new.self.items pushed c.push_reserved.new.self.spare (omega (arith, room, reserved))
 
 pub returns-clause-ok : goal.returns-clause-ok
 returns-clause-ok c = record {
@@ -87,7 +87,7 @@ returns-clause-ok c = record {
       let v = c.self.inside in
       let stage : Stage = record { settings = v.settings; opening = v.opening; priorities = v.priorities } in
       let old : Shown = shown_of v.settings v.opening v.priorities v.trace.items v.journal.items v.seats.items in
-      let next : IsNext old c.args.s (Puts c.args.key c.args.next c.args.mode) = subst (λ (x : Shown). IsNext x c.args.s (Puts c.args.key c.args.next c.args.mode)) (sym c.self.view_is) c.requires.next in
+      let next : IsNextAct old c.args.s (Puts c.args.key c.args.next c.args.mode) = subst (λ (x : Shown). IsNextAct x c.args.s (Puts c.args.key c.args.next c.args.mode)) (sym c.self.view_is) c.requires.next in
       let free : IsFree old c.args.s c.args.next RangeIN = subst (λ (x : Shown). IsFree x c.args.s c.args.next RangeIN) (sym c.self.view_is) c.requires.free in
       let grant : Grant Key = record { session = c.args.s; key = c.args.key; mode = c.args.mode } in
       let adds = subst (λ (g : List (Grant Key)). AddsGrant key_cmp g c.grant_reserved.new.self.grants grant) c.reserve-2.ensures.grants c.grant_reserved.ensures.grants in
@@ -95,7 +95,7 @@ returns-clause-ok c = record {
       (subst (λ (t : List CellRow). HasNew c.args.s c.args.key c.reserve-3.new.self.rows t c.put_key.new.rows.rows c.put_key.new.cells.rows) c.reserve-4.ensures.rows c.put_key.ensures) in
       let pushed = c.push_reserved.ensures.items ∙ ap (λ (ls : List Label). ls ++ label.Put c.args.s c.args.key c.args.mode ∷ []) c.reserve.ensures.items in
       put_runs stage v.trace.items v.journal.items v.seats.items v.rows.rows v.cells.rows v.locks.grants v.waits v.live v.trace.spare v.journal.spare c.self.invariant
-      c.args.s c.index.result c.number-number.ensures.range c.index.ensures.below c.index.ensures.place c.index_mut.result.now c.index_mut.ensures.value c.args.key c.args.next c.args.mode next free c.grant_reserved.new.self.grants adds c.put_key.new.rows.rows c.put_key.new.cells.rows has c.write_on.new.seat c.write_on.ensures c.push_reserved.new.self.items pushed es (subst (IsRunOf es) (sym c.self.view_is) run);
+      c.args.s c.index.result c.in_range.ensures c.index.ensures.below c.index.ensures.place c.index_mut.result.now c.index_mut.ensures.value c.args.key c.args.next c.args.mode next free c.grant_reserved.new.self.grants adds c.put_key.new.rows.rows c.put_key.new.cells.rows has c.write_on.new.seat c.write_on.ensures c.push_reserved.new.self.items pushed es (subst (IsRunOf es) (sym c.self.view_is) run);
 }
 
 pub returns-clause-jobs : goal.returns-clause-jobs

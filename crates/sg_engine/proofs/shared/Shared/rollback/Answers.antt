@@ -13,9 +13,9 @@ push_reserved-requires c =
     let stage : Stage = record { settings = v.settings; opening = v.opening; priorities = v.priorities } in
     let may : MayRollBack (shown_of v.settings v.opening v.priorities v.trace.items v.journal.items v.seats.items) c.args.s c.args.cause = subst (λ (x : Shown). MayRollBack x c.args.s c.args.cause) (sym c.self.view_is) c.requires in
     let on = live_of_may stage v.trace.items v.journal.items v.seats.items v.rows.rows v.cells.rows v.locks.grants v.waits v.live v.trace.spare v.journal.spare c.self.invariant
-    c.args.s c.index.result c.number-number.ensures.range c.index.ensures.below c.index.ensures.place c.index_mut.result.now c.index_mut.ensures.value c.args.cause may in
+    c.args.s c.index.result c.in_range.ensures c.index.ensures.below c.index.ensures.place c.index_mut.result.now c.index_mut.ensures.value c.args.cause may in
     let some = live_some_of stage v.trace.items v.journal.items v.seats.items v.rows.rows v.cells.rows v.locks.grants v.waits v.live v.trace.spare v.journal.spare c.self.invariant
-    c.args.s c.index.result c.number-number.ensures.range c.index.ensures.below c.index.ensures.place c.index_mut.result.now c.index_mut.ensures.value on in
+    c.args.s c.index.result c.in_range.ensures c.index.ensures.below c.index.ensures.place c.index_mut.result.now c.index_mut.ensures.value on in
     let fits = c.self.invariant.labels_fit in
     omega (arith, some, fits)
 
@@ -25,9 +25,9 @@ overflow_sub-self c =
     let stage : Stage = record { settings = v.settings; opening = v.opening; priorities = v.priorities } in
     let may : MayRollBack (shown_of v.settings v.opening v.priorities v.trace.items v.journal.items v.seats.items) c.args.s c.args.cause = subst (λ (x : Shown). MayRollBack x c.args.s c.args.cause) (sym c.self.view_is) c.requires in
     let on = live_of_may stage v.trace.items v.journal.items v.seats.items v.rows.rows v.cells.rows v.locks.grants v.waits v.live v.trace.spare v.journal.spare c.self.invariant
-    c.args.s c.index.result c.number-number.ensures.range c.index.ensures.below c.index.ensures.place c.index_mut.result.now c.index_mut.ensures.value c.args.cause may in
+    c.args.s c.index.result c.in_range.ensures c.index.ensures.below c.index.ensures.place c.index_mut.result.now c.index_mut.ensures.value c.args.cause may in
     live_some_of stage v.trace.items v.journal.items v.seats.items v.rows.rows v.cells.rows v.locks.grants v.waits v.live v.trace.spare v.journal.spare c.self.invariant
-    c.args.s c.index.result c.number-number.ensures.range c.index.ensures.below c.index.ensures.place c.index_mut.result.now c.index_mut.ensures.value on
+    c.args.s c.index.result c.in_range.ensures c.index.ensures.below c.index.ensures.place c.index_mut.result.now c.index_mut.ensures.value on
 
 pub invariant_of-self : goal.invariant_of-self
 invariant_of-self c =
@@ -35,16 +35,16 @@ invariant_of-self c =
     let stage : Stage = record { settings = v.settings; opening = v.opening; priorities = v.priorities } in
     let may : MayRollBack (shown_of v.settings v.opening v.priorities v.trace.items v.journal.items v.seats.items) c.args.s c.args.cause = subst (λ (x : Shown). MayRollBack x c.args.s c.args.cause) (sym c.self.view_is) c.requires in
     let on = live_of_may stage v.trace.items v.journal.items v.seats.items v.rows.rows v.cells.rows v.locks.grants v.waits v.live v.trace.spare v.journal.spare c.self.invariant
-    c.args.s c.index.result c.number-number.ensures.range c.index.ensures.below c.index.ensures.place c.index_mut.result.now c.index_mut.ensures.value c.args.cause may in
+    c.args.s c.index.result c.in_range.ensures c.index.ensures.below c.index.ensures.place c.index_mut.result.now c.index_mut.ensures.value c.args.cause may in
     let some : 1 ≤ v.live = live_some_of stage v.trace.items v.journal.items v.seats.items v.rows.rows v.cells.rows v.locks.grants v.waits v.live v.trace.spare v.journal.spare c.self.invariant
-    c.args.s c.index.result c.number-number.ensures.range c.index.ensures.below c.index.ensures.place c.index_mut.result.now c.index_mut.ensures.value on in
+    c.args.s c.index.result c.in_range.ensures c.index.ensures.below c.index.ensures.place c.index_mut.result.now c.index_mut.ensures.value on in
     let labels = c.self.invariant.labels_fit in
     let entries = c.self.invariant.entries_fit in
     let room = c.push_reserved.ensures.spare in
     rollback_engine stage v.trace.items v.journal.items v.seats.items v.rows.rows v.cells.rows v.locks.grants v.waits v.live v.trace.spare v.journal.spare c.self.invariant
-    c.args.s c.index.result c.number-number.ensures.range c.index.ensures.below c.index.ensures.place c.index_mut.result.now c.index_mut.ensures.value
+    c.args.s c.index.result c.in_range.ensures c.index.ensures.below c.index.ensures.place c.index_mut.result.now c.index_mut.ensures.value
     c.push_reserved.new.self.items v.journal.items c.undo.new.self.rows c.undo-2.new.self.rows c.release_all.new.self.grants c.ended.new.self _ c.push_reserved.new.self.spare v.journal.spare
-    c.abandon.new.seat c.abandon.ensures c.release_all.ensures.grants c.ended.ensures c.blockers-standing.ensures.standing (omega (arith, some)) (omega (arith, some, labels, room)) (omega (arith, some, entries))
+    c.abandon.new.seat c.abandon.ensures c.release_all.ensures.grants c.ended.ensures c.in_order.ensures (omega (arith, some)) (omega (arith, some, labels, room)) (omega (arith, some, entries))
     c.args.cause may c.push_reserved.ensures.items refl c.undo.ensures.rows c.undo-2.ensures.rows
 
 pub returns-clause-run : goal.returns-clause-run
@@ -56,16 +56,16 @@ returns-clause-run c = record {
       let old : Shown = shown_of v.settings v.opening v.priorities v.trace.items v.journal.items v.seats.items in
       let may : MayRollBack old c.args.s c.args.cause = subst (λ (x : Shown). MayRollBack x c.args.s c.args.cause) (sym c.self.view_is) c.requires in
       let on = live_of_may stage v.trace.items v.journal.items v.seats.items v.rows.rows v.cells.rows v.locks.grants v.waits v.live v.trace.spare v.journal.spare c.self.invariant
-      c.args.s c.index.result c.number-number.ensures.range c.index.ensures.below c.index.ensures.place c.index_mut.result.now c.index_mut.ensures.value c.args.cause may in
+      c.args.s c.index.result c.in_range.ensures c.index.ensures.below c.index.ensures.place c.index_mut.result.now c.index_mut.ensures.value c.args.cause may in
       let some : 1 ≤ v.live = live_some_of stage v.trace.items v.journal.items v.seats.items v.rows.rows v.cells.rows v.locks.grants v.waits v.live v.trace.spare v.journal.spare c.self.invariant
-      c.args.s c.index.result c.number-number.ensures.range c.index.ensures.below c.index.ensures.place c.index_mut.result.now c.index_mut.ensures.value on in
+      c.args.s c.index.result c.in_range.ensures c.index.ensures.below c.index.ensures.place c.index_mut.result.now c.index_mut.ensures.value on in
       let labels = c.self.invariant.labels_fit in
       let entries = c.self.invariant.entries_fit in
       let room = c.push_reserved.ensures.spare in
       rollback_runs stage v.trace.items v.journal.items v.seats.items v.rows.rows v.cells.rows v.locks.grants v.waits v.live v.trace.spare v.journal.spare c.self.invariant
-      c.args.s c.index.result c.number-number.ensures.range c.index.ensures.below c.index.ensures.place c.index_mut.result.now c.index_mut.ensures.value
+      c.args.s c.index.result c.in_range.ensures c.index.ensures.below c.index.ensures.place c.index_mut.result.now c.index_mut.ensures.value
       c.push_reserved.new.self.items v.journal.items c.undo.new.self.rows c.undo-2.new.self.rows c.release_all.new.self.grants c.ended.new.self (v.live - 1) c.push_reserved.new.self.spare v.journal.spare
-      c.abandon.new.seat c.abandon.ensures c.release_all.ensures.grants c.ended.ensures c.blockers-standing.ensures.standing (omega (arith, some)) (omega (arith, some, labels, room)) (omega (arith, some, entries))
+      c.abandon.new.seat c.abandon.ensures c.release_all.ensures.grants c.ended.ensures c.in_order.ensures (omega (arith, some)) (omega (arith, some, labels, room)) (omega (arith, some, entries))
       c.args.cause may c.push_reserved.ensures.items refl c.undo.ensures.rows c.undo-2.ensures.rows es (subst (IsRunOf es) (sym c.self.view_is) run);
 }
 
@@ -76,4 +76,4 @@ returns-clause-job c =
     let l = c.self.invariant.seats in
     subst (λ (x : Shown). EndsJob c.args.s x (shown_in stage c.push_reserved.new.self.items v.journal.items (set v.seats.items c.index.result c.abandon.new.seat))) c.self.view_is
     (ends_job_of stage v.trace.items v.journal.items v.seats.items v.rows.rows v.cells.rows v.locks.grants v.waits v.live v.trace.spare v.journal.spare c.self.invariant
-    c.args.s c.index.result c.number-number.ensures.range c.index.ensures.below c.index.ensures.place c.index_mut.result.now c.index_mut.ensures.value c.push_reserved.new.self.items v.journal.items c.abandon.new.seat c.abandon.ensures)
+    c.args.s c.index.result c.in_range.ensures c.index.ensures.below c.index.ensures.place c.index_mut.result.now c.index_mut.ensures.value c.push_reserved.new.self.items v.journal.items c.abandon.new.seat c.abandon.ensures)

@@ -9,4 +9,4 @@ pub returns : goal.returns
 returns c =
     let v = c.self.inside in
     subst (λ (x : Shown). SerialIn x.stage.settings x.stage.opening x.journal (committed_rows v.rows.rows)) c.self.view_is
-    (rows_serial _ v.rows.rows v.cells.rows v.locks.grants v.waits v.seats.items v.live v.trace.spare v.journal.spare c.self.invariant c.present-sound.ensures.sound)
+    (rows_serial _ v.rows.rows v.cells.rows v.locks.grants v.waits v.seats.items v.live v.trace.spare v.journal.spare c.self.invariant c.in_order.ensures.sound)

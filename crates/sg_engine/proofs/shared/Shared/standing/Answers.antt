@@ -1,5 +1,5 @@
 use Rattle.std.proofs.Common.{◌≡◌, ◌≢◌, [], true, subst, refl}
-use Rattle.sg_modes.specs.BoolLaws.{clash}
+use Rattle.sg_modes.proofs.BoolLaws.{clash}
 use Rattle.sg_trace.specs.Traces.{Stage}
 use Rattle.sg_engine.specs.Shown.{Shown, is_open_in}
 use Rattle.sg_engine.specs.Nexts.{WaitsForNone}
@@ -14,7 +14,7 @@ returns-then-is_empty-clause-free c = λ _.
     let stage : Stage = record { settings = v.settings; opening = v.opening; priorities = v.priorities } in
     subst (λ (x : Shown). WaitsForNone x c.args.s) c.self.view_is
     (waits_for_none stage v.trace.items v.journal.items v.seats.items v.rows.rows v.cells.rows v.locks.grants v.waits v.live v.trace.spare v.journal.spare c.self.invariant
-    c.args.s c.number-number.ensures.range c.blockers-blockers.result c.blockers-blockers.ensures.blockers (c.if-is_empty.ensures.empty.0 refl))
+    c.args.s c.in_range.ensures c.blockers-blockers.result c.blockers-blockers.ensures.blockers (c.if-is_empty.ensures.empty.0 refl))
 
 pub wish_at-key-requires : goal.wish_at-key-requires
 wish_at-key-requires c =
@@ -23,9 +23,9 @@ wish_at-key-requires c =
     let some : c.blockers-blockers.result ≢ [] = (λ e. clash _ (c.if-is_empty.ensures.empty.1 e) refl) in
     let d = c.index-2.result.now in
     let within = within_is stage v.trace.items v.journal.items v.seats.items v.rows.rows v.cells.rows v.locks.grants v.waits v.live v.trace.spare v.journal.spare c.self.invariant
-    c.args.s c.index.result c.number-number.ensures.range c.index.ensures.below c.index.ensures.place d c.index-2.ensures in
+    c.args.s c.index.result c.in_range.ensures c.index.ensures.below c.index.ensures.place d c.index-2.ensures in
     has_wish_there stage v.trace.items v.journal.items v.seats.items v.rows.rows v.cells.rows v.locks.grants v.waits v.live v.trace.spare v.journal.spare c.self.invariant
-    c.args.s c.number-number.ensures.range c.blockers-blockers.result c.blockers-blockers.ensures.blockers some c.index.result within c.index.ensures.place d c.index-2.ensures
+    c.args.s c.in_range.ensures c.blockers-blockers.result c.blockers-blockers.ensures.blockers some c.index.result within c.index.ensures.place d c.index-2.ensures
 
 pub returns-clause-stands : goal.returns-clause-stands
 returns-clause-stands c =
@@ -34,10 +34,10 @@ returns-clause-stands c =
     let some : c.blockers-blockers.result ≢ [] = (λ e. clash _ (c.if-is_empty.ensures.empty.1 e) refl) in
     let d = c.index-2.result.now in
     let within = within_is stage v.trace.items v.journal.items v.seats.items v.rows.rows v.cells.rows v.locks.grants v.waits v.live v.trace.spare v.journal.spare c.self.invariant
-    c.args.s c.index.result c.number-number.ensures.range c.index.ensures.below c.index.ensures.place d c.index-2.ensures in
+    c.args.s c.index.result c.in_range.ensures c.index.ensures.below c.index.ensures.place d c.index-2.ensures in
     subst (λ (x : Shown). Stands x c.args.s c.wish_at-key.result.0 c.wish_at-key.result.1 c.blockers-blockers.result) c.self.view_is
     (stands_there stage v.trace.items v.journal.items v.seats.items v.rows.rows v.cells.rows v.locks.grants v.waits v.live v.trace.spare v.journal.spare c.self.invariant
-    c.args.s c.number-number.ensures.range c.blockers-blockers.result c.blockers-blockers.ensures.blockers some c.index.result within c.index.ensures.place d c.index-2.ensures
+    c.args.s c.in_range.ensures c.blockers-blockers.result c.blockers-blockers.ensures.blockers some c.index.result within c.index.ensures.place d c.index-2.ensures
     c.wish_at-key.result.0 c.wish_at-key.result.1 c.wish_at-key.ensures)
 
 pub returns-clause-open : goal.returns-clause-open
@@ -47,4 +47,4 @@ returns-clause-open c = λ _.
     let some : c.blockers-blockers.result ≢ [] = (λ e. clash _ (c.if-is_empty.ensures.empty.1 e) refl) in
     subst (λ (x : Shown). is_open_in x c.args.s ≡ true) c.self.view_is
     (open_there stage v.trace.items v.journal.items v.seats.items v.rows.rows v.cells.rows v.locks.grants v.waits v.live v.trace.spare v.journal.spare c.self.invariant
-    c.args.s c.number-number.ensures.range c.blockers-blockers.result c.blockers-blockers.ensures.blockers some)
+    c.args.s c.in_range.ensures c.blockers-blockers.result c.blockers-blockers.ensures.blockers some)

@@ -1,8 +1,8 @@
 use Rattle.std.specs.Prelude.{◌-◌}
 use Rattle.std.proofs.Common.{◌≡◌, ◌≢◌, ℕ, List, [], ◌∷◌, ◌++◌, cond, set, true, false, Some, None, sym, ap, ◌∙◌, subst, refl, arith, ◌≤◌}
-use Rattle.sg_modes.specs.BoolLaws.{clash}
+use Rattle.sg_modes.proofs.BoolLaws.{clash}
 use Rattle.sg_modes.specs.Sessions.{IsSession, has_session}
-use Rattle.sg_modes.specs.SessionLaws.{member_is_session}
+use Rattle.sg_modes.proofs.SessionLaws.{member_is_session}
 use Rattle.sg_waits.specs.Ranks.{rank_of}
 use Rattle.sg_trace.specs.declared.labels.Label.{Label}
 use Rattle.sg_trace.specs.Traces.{Stage, Event, Wait}
@@ -26,7 +26,7 @@ add-requires-clause-others c =
     let all : (es : List Event) → IsRunOf es old → Fits stage es (Wait c.args.s c.args.key c.args.mode c.args.blockers) =
     subst (λ (x : Shown). (es : List Event) → IsRunOf es x → Fits x.stage es (Wait c.args.s c.args.key c.args.mode c.args.blockers)) (sym c.self.view_is) c.requires in
     let fits = all c.self.invariant.events c.self.invariant.run in
-    not_itself stage v.trace.items v.journal.items v.seats.items v.rows.rows v.cells.rows v.locks.grants v.waits v.live v.trace.spare v.journal.spare c.self.invariant c.args.s c.number-number.ensures.range c.args.key c.args.mode c.args.blockers fits
+    not_itself stage v.trace.items v.journal.items v.seats.items v.rows.rows v.cells.rows v.locks.grants v.waits v.live v.trace.spare v.journal.spare c.self.invariant c.args.s c.in_range.ensures c.args.key c.args.mode c.args.blockers fits
 
 pub add-requires-clause-none_stands : goal.add-requires-clause-none_stands
 add-requires-clause-none_stands c =
@@ -36,7 +36,7 @@ add-requires-clause-none_stands c =
     let all : (es : List Event) → IsRunOf es old → Fits stage es (Wait c.args.s c.args.key c.args.mode c.args.blockers) =
     subst (λ (x : Shown). (es : List Event) → IsRunOf es x → Fits x.stage es (Wait c.args.s c.args.key c.args.mode c.args.blockers)) (sym c.self.view_is) c.requires in
     let fits = all c.self.invariant.events c.self.invariant.run in
-    none_stands stage v.trace.items v.journal.items v.seats.items v.rows.rows v.cells.rows v.locks.grants v.waits v.live v.trace.spare v.journal.spare c.self.invariant c.args.s c.number-number.ensures.range c.args.key c.args.mode c.args.blockers fits c.blockers-standing.ensures.standing
+    none_stands stage v.trace.items v.journal.items v.seats.items v.rows.rows v.cells.rows v.locks.grants v.waits v.live v.trace.spare v.journal.spare c.self.invariant c.args.s c.in_range.ensures c.args.key c.args.mode c.args.blockers fits c.in_order.ensures
 
 pub cycles-init : goal.cycles-init
 cycles-init c =
@@ -50,7 +50,7 @@ cycles-init c =
     let room = c.in_ok-reserve.ensures.spare in
     subst (λ (x : Shown). Breaks c.args.s c.args.key c.args.mode c.args.blockers x stage c.push_reserved.new.self.items v.journal.items (set v.seats.items c.index.result c.wish.new.seat) v.rows.rows v.cells.rows v.locks.grants c.add.new.self v.live c.push_reserved.new.self.spare v.journal.spare c.cycle-cycle.result None)
     c.self.view_is
-    (breaks_first stage v.trace.items v.journal.items v.seats.items v.rows.rows v.cells.rows v.locks.grants v.waits v.live v.trace.spare v.journal.spare c.self.invariant c.args.s c.number-number.ensures.range c.args.key c.args.mode c.args.blockers fits c.blockers-standing.ensures.standing
+    (breaks_first stage v.trace.items v.journal.items v.seats.items v.rows.rows v.cells.rows v.locks.grants v.waits v.live v.trace.spare v.journal.spare c.self.invariant c.args.s c.in_range.ensures c.args.key c.args.mode c.args.blockers fits c.in_order.ensures
     c.index.result c.index.ensures.below c.index.ensures.place c.index_mut.result.now c.index_mut.ensures.value c.push_reserved.new.self.items c.wish.new.seat c.add.new.self c.push_reserved.new.self.spare c.cycle-cycle.result c.wish.ensures
     (c.push_reserved.ensures.items ∙ (ap (λ (ls : List Label). ls ++ c.waits.result ∷ []) c.reserve.ensures.items ∙ ap (λ (l : Label). v.trace.items ++ l ∷ []) c.waits.ensures)) c.add.ensures (omega (arith, spare, room))
     c.cycle-cycle.ensures.cycle c.cycle-cycle.ensures.empty c.cycle-cycle.ensures.sessions)

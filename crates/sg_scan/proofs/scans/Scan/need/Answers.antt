@@ -11,7 +11,7 @@ returns-in-Row-clause-need c =
     let index = c.args.cells.now.rows in
     let r : Cursor = record { search = c.self.inside.search; modes = c.self.inside.modes; place = c.self.inside.place } in
     subst (λ (x : Cursor). IsFirstNeed grants c.args.s table index x c.need_of_row.result) c.self.view_is
-    (first_is grants c.args.s table index c.first_key-rows.ensures.rising c.first_at-cells.ensures.rising r (search.Row c.in-Row.key) c.need_of_row.result c.in-Row.is c.need_of_row.ensures)
+    (first_is grants c.args.s table index c.in_order.ensures.rising c.rising.ensures r (search.Row c.in-Row.key) c.need_of_row.result c.in-Row.is c.need_of_row.ensures)
 
 pub returns-in-Nothing-clause-need : goal.returns-in-Nothing-clause-need
 returns-in-Nothing-clause-need c =
@@ -20,7 +20,7 @@ returns-in-Nothing-clause-need c =
     let index = c.args.cells.now.rows in
     let r : Cursor = record { search = c.self.inside.search; modes = c.self.inside.modes; place = c.self.inside.place } in
     subst (λ (x : Cursor). IsFirstNeed grants c.args.s table index x None) c.self.view_is
-    (first_is grants c.args.s table index c.first_key-rows.ensures.rising c.first_at-cells.ensures.rising r search.Nothing None c.in-Nothing.is refl)
+    (first_is grants c.args.s table index c.in_order.ensures.rising c.rising.ensures r search.Nothing None c.in-Nothing.is refl)
 
 pub returns-in-Every-clause-need : goal.returns-in-Every-clause-need
 returns-in-Every-clause-need c =
@@ -29,7 +29,7 @@ returns-in-Every-clause-need c =
     let index = c.args.cells.now.rows in
     let r : Cursor = record { search = c.self.inside.search; modes = c.self.inside.modes; place = c.self.inside.place } in
     subst (λ (x : Cursor). IsFirstNeed grants c.args.s table index x c.need_of_table.result) c.self.view_is
-    (first_is grants c.args.s table index c.first_key-rows.ensures.rising c.first_at-cells.ensures.rising r search.Every c.need_of_table.result c.in-Every.is c.need_of_table.ensures.need)
+    (first_is grants c.args.s table index c.in_order.ensures.rising c.rising.ensures r search.Every c.need_of_table.result c.in-Every.is c.need_of_table.ensures.need)
 
 pub returns-in-Cells-clause-need : goal.returns-in-Cells-clause-need
 returns-in-Cells-clause-need c =
@@ -38,4 +38,4 @@ returns-in-Cells-clause-need c =
     let index = c.args.cells.now.rows in
     let r : Cursor = record { search = c.self.inside.search; modes = c.self.inside.modes; place = c.self.inside.place } in
     subst (λ (x : Cursor). IsFirstNeed grants c.args.s table index x c.need.result) c.self.view_is
-    (first_is grants c.args.s table index c.first_key-rows.ensures.rising c.first_at-cells.ensures.rising r (search.Cells c.in-Cells.search) c.need.result c.in-Cells.is c.need.ensures.need)
+    (first_is grants c.args.s table index c.in_order.ensures.rising c.rising.ensures r (search.Cells c.in-Cells.search) c.need.result c.in-Cells.is c.need.ensures.need)

@@ -12,7 +12,7 @@ returns-in-Cells c =
     let table = c.args.rows.now.rows in
     let index = c.args.cells.now.rows in
     IfOk-weaker c.found.result (IsListed s c.in-Cells.search index) (Finds c.args.self.now s table index)
-    (λ found h. subst (λ (x : Search). Finds x s table index found) (sym c.in-Cells.is) (finds_cells s table index c.first_key-rising.ensures.rising c.in-Cells.search found h)) c.found.ensures
+    (λ found h. subst (λ (x : Search). Finds x s table index found) (sym c.in-Cells.is) (finds_cells s table index c.in_order.ensures.rising c.in-Cells.search found h)) c.found.ensures
 
 pub returns-in_ok-seen_keys-in-Every : goal.returns-in_ok-seen_keys-in-Every
 returns-in_ok-seen_keys-in-Every c =
