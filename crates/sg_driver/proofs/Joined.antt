@@ -1,7 +1,7 @@
 -- A turn that is refined in between is one turn.
 use Rattle.std.specs.Prelude.{◌≡◌, ℕ, true, not, ◌||◌, List, [], ◌∷◌, ◌++◌, Option, Some, None, is_some, refl}
 use Rattle.std.proofs.Common.{sym, ap, ap₂, ◌∙◌, subst}
-use Rattle.sg_modes.specs.BoolLaws.{clash}
+use Rattle.sg_modes.proofs.BoolLaws.{clash}
 use Rattle.sg_trace.specs.Traces.{Stage, Event, state, labels_of}
 use Rattle.sg_trace.specs.Scripts.{IsDue}
 use Rattle.sg_engine.specs.Shown.{Shown, Seated, Running, IsRunOf, seat_in, job_in, open_of, is_live_in, is_open_in}

@@ -3,7 +3,7 @@ use Rattle.std.specs.Prelude.{◌≡◌, ◌⊎◌, ℕ, ◌<◌, ◌≤◌, Boo
 use Rattle.std.proofs.Common.{sym, ap, ◌∙◌, subst, arith, eqb, cond, inl, inr, zero, suc}
 use Rattle.std.proofs.lemmas.Bool.{eqb-true, cases_lt}
 use Rattle.sg_cells.specs.Laws.{Has}
-use Rattle.sg_modes.specs.BoolLaws.{clash}
+use Rattle.sg_modes.proofs.BoolLaws.{clash}
 use Rattle.sg_modes.specs.Sessions.{IsSession}
 use Rattle.sg_plain.specs.Transactions.{TransactionPlan}
 use Rattle.sg_script.specs.declared.sessions.SessionScript.{SessionScript}

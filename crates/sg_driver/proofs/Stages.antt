@@ -6,7 +6,7 @@ use Rattle.sg_modes.specs.declared.modes.Mode.{Mode}
 use Rattle.sg_modes.specs.declared.modes.Mode.TheVariants.{RangeIN}
 use Rattle.sg_modes.specs.Priorities.{priority_of}
 use Rattle.sg_modes.specs.Sessions.{IsSession, has_session}
-use Rattle.sg_modes.specs.SessionLaws.{member_is_session}
+use Rattle.sg_modes.proofs.SessionLaws.{member_is_session}
 use Rattle.sg_modes.specs.Victims.{IsVictim}
 use Rattle.sg_plain.specs.declared.statements.Statement.{Statement}
 use Rattle.sg_script.specs.Plans.{Plan}

@@ -120,7 +120,8 @@ fn drive_turn<
     }
 }
 
-/// Refines the job that the session's turn gave out, and goes on with the turn.
+/// Refines the job that the session's turn gave out, and goes on with the turn. The run waits for exactly this job, so
+/// its result is never refused.
 fn refine_turn<
     R: Threads + Sync,
     J: Judge + Copy + Send + Sync,

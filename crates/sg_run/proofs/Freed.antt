@@ -16,7 +16,7 @@ use Rattle.sg_engine.specs.declared.steps.Step.TheVariants as step
 use Rattle.sg_engine.specs.Shown.{Shown, Running, Seated, seat_in, running_of, IsRunOf, Appends, IsIdle, IsBetween, HasNoneOpen, open_of, is_live_in, is_open_in}
 use Rattle.sg_engine.specs.Nexts.{WaitsForNone}
 use Rattle.sg_engine.specs.Waiting.{Victims, victims_of}
-use Rattle.sg_engine.specs.Stepping.{HasStepped, IsStanding}
+use Rattle.sg_engine.specs.Stepping.{HasStepped, IsStanding, GivesJob}
 use Rattle.sg_run.specs.Runs.{RunShown, at_hand, has_ended, IsRun}
 use Rattle.sg_run.specs.Nexts.{IsGiven}
 use Rattle.sg_run.specs.Turns.{IsFree}
@@ -123,6 +123,16 @@ stepped s old new step.Answered g o idle h = inr (record { event = Answered s h.
 stepped s old new (step.Victim cycle) g o idle h =
     inr (record { event = Wait s h.key h.mode h.blockers; victims = h.wait.waited.victims; own = refl; plain = refl; due = λ ps z. tt; run = h.wait.waited.run; free = h.wait.free })
 stepped s old new step.Idle g o idle h = absurd (let f : is_open_in old s ≡ false = idle.0 refl in cc)
+
+-- a step that gave out no job was none that gives a job
+pub none_given : (it : Step) → IsGiven it None → GivesJob it → ⊥
+none_given (step.Took k m) given job = job
+none_given (step.Put k m) given job = job
+none_given (step.Waiting k m b) given job = job
+none_given (step.Job it) given job = given
+none_given step.Answered given job = job
+none_given (step.Victim cycle) given job = job
+none_given step.Idle given job = job
 
 -- one that went on has more labels
 pub went_longer : (s : ℕ) (old new : Shown) (es : List Event) → IsRunOf es old → Went s old new → length old.labels < length new.labels

@@ -4,7 +4,7 @@ use Rattle.std.proofs.lemmas.Bool.{cases_lt}
 use Rattle.std.proofs.lemmas.List.{length-append}
 use Rattle.std.proofs.Common.{◌≡◌, ◌⊎◌, ℕ, zero, suc, ◌+◌, ◌<◌, ◌++◌, length, get_or, Bool, true, false, cond, List, [], ◌∷◌, eqb, eqb-true, eq-eqb, refl, sym, ap, ◌∙◌, subst, inl, inr, arith}
 use Rattle.sg_modes.specs.Priorities.{IsPriority, priority_of}
-use Rattle.sg_modes.specs.BoolLaws.{ne-eqb}
+use Rattle.sg_modes.proofs.BoolLaws.{ne-eqb}
 use Rattle.sg_modes.specs.Sessions.{AreSessions}
 use Rattle.sg_modes.proofs.PriorityLaws.{IsPriority-zero}
 use Rattle.sg_modes.specs.Sessions.{IsSession, has_session}

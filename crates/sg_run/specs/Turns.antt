@@ -61,3 +61,11 @@ HasTurned s old new turn.Waits = IsStanding old.engine s × (has_ended old s ≡
 HasTurned s old new turn.Labelled = IsFree old s × HasGoneOn s old new
 HasTurned s old new (turn.Job job) = IsFree old s × HasGiven s job old new
 HasTurned s old new turn.Unbegun = IsFree old s × HasLeft s old new
+
+-- a job was given out, or there was no memory for it and the transaction was rolled back
+abbrev pub GivesJobOrRollsBack : ℕ → RunShown → RunShown → Turn → Type 0
+GivesJobOrRollsBack s old new (turn.Job job) = Unit {0}
+GivesJobOrRollsBack s old new turn.Labelled = GoesBy s (Rollback s NoMemory) [] old new
+GivesJobOrRollsBack s old new turn.Ended = ⊥
+GivesJobOrRollsBack s old new turn.Waits = ⊥
+GivesJobOrRollsBack s old new turn.Unbegun = ⊥

@@ -48,7 +48,7 @@ impl Course {
         requires number { 1 ≤ self.old.numbers.spare }
         ensures { self.new ≡ ended outcome self.old }
     {
-        let _room = self.over.room();
+        self.over.countable();
         let number = self.over.len() as u64 + 1;
         self.numbers.push_reserved(number);
         self.over.push_reserved(Over {
@@ -148,6 +148,6 @@ fn end_of(courses: &mut [Course], s: Session, outcome: Outcome)
     ensures own { course_in courses.new s ≡ ended outcome (course_in courses.old s) }
     ensures others { (u : ℕ) → IsSession u → u ≢ s → course_in courses.new u ≡ course_in courses.old u }
 {
-    let _number = s.number();
+    s.in_range();
     courses[s.index()].end(outcome);
 }

@@ -107,7 +107,7 @@ impl<J: Judge + Copy + Send + Sync, C: CellJudge + Copy + Send + Sync> Run<J, C>
     pub fn ended(&self, s: Session) -> bool
         ensures { result ≡ has_ended self.now s }
     {
-        let _number = s.number();
+        s.in_range();
         let over = self.courses[s.index()].over.len();
         !self.engine.is_live(s) && self.script.transaction_of(s, over).is_none()
     }
@@ -130,7 +130,7 @@ impl<J: Judge + Copy + Send + Sync, C: CellJudge + Copy + Send + Sync> Run<J, C>
     pub fn outcome(&self, s: Session, transaction: u64) -> Option<Outcome>
         ensures { result ≡ outcome_in self.now s transaction }
     {
-        let _number = s.number();
+        s.in_range();
         self.courses[s.index()].outcome(transaction)
     }
 
@@ -145,7 +145,7 @@ impl<J: Judge + Copy + Send + Sync, C: CellJudge + Copy + Send + Sync> Run<J, C>
         }
         let entry = self.engine.journal().at((place - 1) as usize)?;
         let s = entry.session();
-        let _number = s.number();
+        s.in_range();
         let number = self.courses[s.index()].number_of(entry.transaction());
         Some((s, number))
     }

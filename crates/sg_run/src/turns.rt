@@ -4,9 +4,10 @@ ghost use Rattle.sg_trace.specs.Traces.{Ask, Commit, Rollback};
 ghost use Rattle.sg_engine.specs.Shown.{IsIdle, IsBetween, is_live_in, is_open_in};
 ghost use Rattle.sg_engine.specs.Ends.{MayRollBack};
 ghost use Rattle.sg_engine.specs.Nexts.{WaitsForNone};
+ghost use Rattle.sg_engine.specs.Stepping.{IsLeftToRefine};
 ghost use Rattle.sg_run.specs.Runs.{Due, IsRun};
 ghost use Rattle.sg_run.specs.Nexts.{IsNextOf, IsGiven, MayGoOn};
-ghost use Rattle.sg_run.specs.Turns.{HasTurned, HasGoneOn, IsFree, GoesBy};
+ghost use Rattle.sg_run.specs.Turns.{HasTurned, HasGoneOn, IsFree, GoesBy, GivesJobOrRollsBack};
 
 use crate::courses::note;
 use crate::runs::Run;
@@ -46,9 +47,12 @@ pub(crate) enum Next {
 
 impl<J: Judge + Copy + Send + Sync, C: CellJudge + Copy + Send + Sync> Run<J, C> {
     /// One turn of the session: it begins its next transaction, asks for the next statement, goes on with the open one
-    /// or ends its transaction, as the script says. Where there is no memory to go on, the transaction is rolled back.
+    /// or ends its transaction, as the script says. Where there is no memory to go on, the transaction is rolled back. A
+    /// job is given out exactly where the open statement waits for nobody, has read what it needs and has something
+    /// left to refine, but for that want of memory.
     pub fn turn(&mut self, s: Session) -> Turn
         ensures turned { HasTurned s self.old self.new result }
+        ensures refines { IsLeftToRefine self.old.engine s → GivesJobOrRollsBack s self.old self.new result }
         ensures legal { IsRun self.new }
     {
         if !self.is_live(s) {
@@ -67,7 +71,7 @@ impl<J: Judge + Copy + Send + Sync, C: CellJudge + Copy + Send + Sync> Run<J, C>
         ensures turned { HasTurned s self.old self.new result }
         ensures legal { IsRun self.new }
     {
-        let _number = s.number();
+        s.in_range();
         let from = self.engine.trace().len();
         let at = s.index();
         let over = self.courses[at].over.len();
@@ -86,9 +90,10 @@ impl<J: Judge + Copy + Send + Sync, C: CellJudge + Copy + Send + Sync> Run<J, C>
     fn step(&mut self, s: Session) -> Turn
         requires { is_open_in self.old.engine s ≡ true }
         ensures turned { HasTurned s self.old self.new result }
+        ensures refines { IsLeftToRefine self.old.engine s → GivesJobOrRollsBack s self.old self.new result }
         ensures legal { IsRun self.new }
     {
-        let _number = s.number();
+        s.in_range();
         let from = self.engine.trace().len();
         let Ok(step) = self.engine.step(s) else {
             self.roll_back(s, Cause::NoMemory);
@@ -125,7 +130,7 @@ impl<J: Judge + Copy + Send + Sync, C: CellJudge + Copy + Send + Sync> Run<J, C>
         ensures free { IsFree self.now s }
         ensures next { IfOk result (MayGoOn self.now s) }
     {
-        let _number = s.number();
+        s.in_range();
         let over = self.courses[s.index()].over.len();
         let answered = self.engine.answers(s).len();
         match self.script.transaction_of(s, over) {
@@ -177,7 +182,7 @@ impl<J: Judge + Copy + Send + Sync, C: CellJudge + Copy + Send + Sync> Run<J, C>
 fn next_in(alloc: Global, transaction: &Transaction, answered: usize) -> Result<Next, AllocError>
     ensures { IfOk result (IsNextOf transaction.now answered) }
 {
-    let _sound = transaction.as_slice();
+    transaction.all_sound();
     match transaction.at(answered) {
         Some(statement) => Ok(Next::Ask(statement.copy(alloc)?)),
         None => match transaction.end() {

@@ -1,4 +1,4 @@
-use Rattle.sg_modes.specs.BoolLaws.{clash}
+use Rattle.sg_modes.proofs.BoolLaws.{clash}
 use Rattle.sg_driver.proofs.Loops.{way_more}
 use Rattle.sg_driver.proofs.Rounds.{one_left, round_lowers}
 use Rattle.sg_driver.proofs.drives.finish.Goals as goal

@@ -23,7 +23,7 @@ number_of-number-requires-clause-most g c =
     let v = c.self.inside in
     let e : Entry = c.in_ok-entry.entry.now in
     let there = ap (λ (es : List Entry). slice_get es (c.args.place - 1)) (sym c.journal.ensures) ∙ (sym c.at.ensures ∙ ap option_copied c.in_ok-entry.was) in
-    let is = subst IsSession c.session-s.ensures c.number-number.ensures.range in
+    let is = subst IsSession c.session-s.ensures c.in_range.ensures in
     let at : course_in v.courses.items e.session ≡ c.index-2.result.now =
     ap (course_in v.courses.items) (sym c.session-s.ensures) ∙ course_is v.courses.items c.session-s.result c.index.result c.index-2.result.now c.index.ensures.place (within_kept v.script v.engine v.courses.items c.self.invariant c.index.result c.index.ensures.below) c.index-2.ensures in
     subst (λ n. n ≤ length c.index-2.result.now.numbers.items) (sym c.transaction.ensures)
@@ -35,7 +35,7 @@ returns g c =
     let r : RunShown = run_of v.script v.engine v.courses.items in
     let e : Entry = c.in_ok-entry.entry.now in
     let there = ap (λ (es : List Entry). slice_get es (c.args.place - 1)) (sym c.journal.ensures) ∙ (sym c.at.ensures ∙ ap option_copied c.in_ok-entry.was) in
-    let is = subst IsSession c.session-s.ensures c.number-number.ensures.range in
+    let is = subst IsSession c.session-s.ensures c.in_range.ensures in
     let at : course_in v.courses.items e.session ≡ c.index-2.result.now =
     ap (course_in v.courses.items) (sym c.session-s.ensures) ∙ course_is v.courses.items c.session-s.result c.index.result c.index-2.result.now c.index.ensures.place (within_kept v.script v.engine v.courses.items c.self.invariant c.index.result c.index.ensures.below) c.index-2.ensures in
     let number : c.number_of-number.result ≡ number_of (past_in r.past e.session) e.transaction =

@@ -77,7 +77,7 @@ returns-clause-turned g c =
     (λ e. c.if-len-from.false (c.len.ensures ∙ (ap length c.trace-2.ensures ∙ (e ∙ sym (c.len-from.ensures ∙ ap length c.trace.ensures))))) in
     let rest = drop (length c.note.new.courses) v.courses.items in
     let new : RunShown = run_of v.script c.step.new.self (take v.courses.len (c.note.new.courses ++ rest)) in (
-      subst (λ (x : RunShown). IsFree x c.args.s) c.self.view_is (live_free r c.self.invariant.run c.args.s c.number-number.ensures.range (open_live v.engine c.args.s is_open) went.free),
+      subst (λ (x : RunShown). IsFree x c.args.s) c.self.view_is (live_free r c.self.invariant.run c.args.s c.in_range.ensures (open_live v.engine c.args.s is_open) went.free),
       gone c.args.s went.event went.victims r c.args.self.now new new c.self.view_is refl
           (goes_by v.script v.engine c.step.new.self v.courses.items c.self.invariant went.event went.victims went.run (λ es run. went.due (begun_script r) (state v.engine.stage es))
           c.deref_mut.result.now c.deref_mut.ensures.value c.trace.result.now.items c.trace-3.result.now.items c.trace.ensures c.trace-3.ensures c.len-from.result c.len-from.ensures
