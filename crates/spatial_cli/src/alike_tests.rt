@@ -1,7 +1,6 @@
-use crate::replay::replay_main;
-use crate::status::Status;
 use crate::tests::{replay, sink};
 use sg_io::{MemorySink, MemorySource};
+use sg_program::{Status, replay_main};
 use sg_refine::OpenGate;
 use std::alloc::Global;
 use std::process::Abort;

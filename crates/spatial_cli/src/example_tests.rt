@@ -2,6 +2,14 @@
 use crate::tests::prints;
 use std::test::Fail;
 
+/// examples/phantom.script
+pub const PHANTOM: &[u8] =
+    b"# A phantom that waits: session 1 asks twice who stands in a square, and session 2 puts somebody there meanwhile.\n# The cells of the four levels are 64, 16, 4 and 1 wide.\ngrid 0 0 256 256 low low low low\n# its cell's key is the only one of the cells, far above those of the square\nrow 3 POINT (200 200)\nsession 1\nbegin\n# No key of a cell of the square is there, so one lock keeps all their gaps: RangeS-S on the next key, the cell of row 3.\nselect intersects POLYGON ((8 8, 11 8, 11 11, 8 11, 8 8))\n# Answered once session 2 has begun to insert, and the same as before.\nselect intersects POLYGON ((8 8, 11 8, 11 11, 8 11, 8 8))\ncommit\nbegin\n# This one comes after the insertion.\nselect intersects POLYGON ((8 8, 11 8, 11 11, 8 11, 8 8))\ncommit\nsession 2\nbegin\n# Its key is put among the rows; the key of its cell would come into the locked gap, so it waits for session 1's commit.\ninsert 7 POINT (9 10)\ncommit\n# Session 1 begins, asks, takes its lock and answers. Session 2 begins, asks, puts the key of row 7 and waits.\nschedule 1 1 1 1 2 2 2 2\n# Session 1 asks again and answers, without a new lock; what is left goes in rounds.\nschedule 1 1\n";
+
+/// examples/deadlock.script
+pub const DEADLOCK: &[u8] =
+    b"# A deadlock: each of two sessions waits for a row that the other one has written, and one of them is rolled back.\nrow 1 POINT (0 0)\nrow 2 POINT (10 0)\nrow 3 POINT (20 0)\nsession 1\nbegin\n# X on row 1: the only key that this transaction comes to write\nupdate 1 POINT (0 1)\n# waits for session 2, which has X on row 3\nupdate 3 POINT (20 1)\ncommit\n# The transaction above is the victim. The session goes on with its next one, which sees nothing of it.\nbegin\nget 1\nget 3\ncommit\nsession 2\nbegin\n# X on two rows, so to roll this one back would cost more\nupdate 2 POINT (10 2)\nupdate 3 POINT (20 2)\n# waits for session 1, which waits already: that closes the cycle 1 2, whose victim has written fewer keys\nupdate 1 POINT (0 2)\ncommit\n# Session 1 begins and asks, takes row 1 and answers; session 2 begins, and twice asks, takes a row and answers.\nschedule 1 1 1 1 2 2 2 2 2 2 2\n# Session 1 asks and waits; session 2 asks and waits, and session 1 is rolled back. What is left goes in rounds.\nschedule 1 1 2 2\n";
+
 // examples/index.script
 #[test]
 fn a_grid_with_plans(rt: HostRuntime) -> Result<(), Fail> {
@@ -30,7 +38,7 @@ fn a_phantom_that_waits(rt: HostRuntime) -> Result<(), Fail> {
     prints(
         &rt,
         rt.alloc(),
-        b"# A phantom that waits: session 1 asks twice who stands in a square, and session 2 puts somebody there meanwhile.\n# The cells of the four levels are 64, 16, 4 and 1 wide.\ngrid 0 0 256 256 low low low low\n# its cell's key is the only one of the cells, far above those of the square\nrow 3 POINT (200 200)\nsession 1\nbegin\n# No key of a cell of the square is there, so one lock keeps all their gaps: RangeS-S on the next key, the cell of row 3.\nselect intersects POLYGON ((8 8, 11 8, 11 11, 8 11, 8 8))\n# Answered once session 2 has begun to insert, and the same as before.\nselect intersects POLYGON ((8 8, 11 8, 11 11, 8 11, 8 8))\ncommit\nbegin\n# This one comes after the insertion.\nselect intersects POLYGON ((8 8, 11 8, 11 11, 8 11, 8 8))\ncommit\nsession 2\nbegin\n# Its key is put among the rows; the key of its cell would come into the locked gap, so it waits for session 1's commit.\ninsert 7 POINT (9 10)\ncommit\n# Session 1 begins, asks, takes its lock and answers. Session 2 begins, asks, puts the key of row 7 and waits.\nschedule 1 1 1 1 2 2 2 2\n# Session 1 asks again and answers, without a new lock; what is left goes in rounds.\nschedule 1 1\n",
+        PHANTOM,
         b"commit 1 session 1 transaction 1\n  keys\n  keys\ncommit 2 session 2 transaction 1\n  inserted\ncommit 3 session 1 transaction 2\n  keys 7\nrows 2\n  3 POINT (200 200)\n  7 POINT (9 10)\n",
     )
 }
@@ -41,7 +49,7 @@ fn a_deadlock(rt: HostRuntime) -> Result<(), Fail> {
     prints(
         &rt,
         rt.alloc(),
-        b"# A deadlock: each of two sessions waits for a row that the other one has written, and one of them is rolled back.\nrow 1 POINT (0 0)\nrow 2 POINT (10 0)\nrow 3 POINT (20 0)\nsession 1\nbegin\n# X on row 1: the only key that this transaction comes to write\nupdate 1 POINT (0 1)\n# waits for session 2, which has X on row 3\nupdate 3 POINT (20 1)\ncommit\n# The transaction above is the victim. The session goes on with its next one, which sees nothing of it.\nbegin\nget 1\nget 3\ncommit\nsession 2\nbegin\n# X on two rows, so to roll this one back would cost more\nupdate 2 POINT (10 2)\nupdate 3 POINT (20 2)\n# waits for session 1, which waits already: that closes the cycle 1 2, whose victim has written fewer keys\nupdate 1 POINT (0 2)\ncommit\n# Session 1 begins and asks, takes row 1 and answers; session 2 begins, and twice asks, takes a row and answers.\nschedule 1 1 1 1 2 2 2 2 2 2 2\n# Session 1 asks and waits; session 2 asks and waits, and session 1 is rolled back. What is left goes in rounds.\nschedule 1 1 2 2\n",
+        DEADLOCK,
         b"commit 1 session 2 transaction 1\n  done\n  done\n  done\ncommit 2 session 1 transaction 2\n  shape POINT (0 2)\n  shape POINT (20 2)\nvictim session 1 transaction 1 cycle 1 2\nrows 3\n  1 POINT (0 2)\n  2 POINT (10 2)\n  3 POINT (20 2)\n",
     )
 }

@@ -78,3 +78,14 @@ fn high_levels(rt: HostRuntime) -> Result<(), Fail> {
         b"commit 1 session 1 transaction 1\n  inserted\n  plan 1 0 1 keys 4294967295\n  keys 4294967295\nrows 1\n  4294967295 POINT (16000000 -16000000)\n",
     )
 }
+
+// Two lines that cross, each of which goes through some 120 cells of the last level.
+#[test]
+fn the_greatest_window_and_cells(rt: HostRuntime) -> Result<(), Fail> {
+    prints(
+        &rt,
+        rt.alloc(),
+        b"window 8192\ngrid 0 0 256 256 low low low low 8192\nrow 1 LINESTRING (0 1, 64 63)\nsession 1\nbegin\nplan intersects LINESTRING (0 63, 64 1)\nfilter LINESTRING (0 63, 64 1)\ncommit\n",
+        b"commit 1 session 1 transaction 1\n  plan 1 0 1 keys 1\n  keys 1\nrows 1\n  1 LINESTRING (0 1, 64 63)\n",
+    )
+}

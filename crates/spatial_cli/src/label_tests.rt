@@ -1,6 +1,6 @@
 // What sessions did, read from the labels.
-use crate::replay::replay_main;
 use crate::tests::{add, replay, sink, source};
+use sg_program::replay_main;
 use sg_refine::OpenGate;
 use std::alloc::Global;
 use std::process::Abort;

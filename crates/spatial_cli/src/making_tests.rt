@@ -1,9 +1,7 @@
-use crate::making::make_main;
-use crate::replay::replay_main;
-use crate::status::Status;
 use crate::tests::{USAGE, add, replay, sink, source};
 use sg_command::Words;
 use sg_io::MemorySink;
+use sg_program::{Status, make_main, replay_main};
 use sg_refine::OpenGate;
 use std::alloc::Global;
 use std::process::Abort;

@@ -1,7 +1,6 @@
-use crate::program::spatial_main;
-use crate::status::Status;
 use crate::tests::{add, sink, source};
 use sg_command::Words;
+use sg_program::{Status, spatial_main};
 use sg_refine::{Gate, OpenGate};
 use std::alloc::Global;
 use std::process::Abort;

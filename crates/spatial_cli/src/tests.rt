@@ -1,8 +1,6 @@
-use crate::program::spatial_main;
-use crate::replay::replay_main;
-use crate::status::Status;
 use sg_command::Words;
 use sg_io::{MemorySink, MemorySource};
+use sg_program::{Status, replay_main, spatial_main};
 use sg_refine::OpenGate;
 use std::alloc::Global;
 use std::process::Abort;
@@ -10,10 +8,11 @@ use std::sync::Wait;
 use std::test::Fail;
 use std::thread::Threads;
 
-const FIRST: &[u8] =
+/// The script of examples/first.script, and what it prints.
+pub const FIRST: &[u8] =
     b"session 1\nbegin\ninsert 1 POINT (3 4)\nselect intersects POINT (3 4)\ncommit\n";
 
-const FIRST_TEXT: &[u8] =
+pub const FIRST_TEXT: &[u8] =
     b"commit 1 session 1 transaction 1\n  inserted\n  keys 1\nrows 1\n  1 POINT (3 4)\n";
 
 pub const USAGE: &[u8] =

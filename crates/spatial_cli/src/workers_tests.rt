@@ -1,7 +1,6 @@
-use crate::replay::replay_main;
-use crate::status::Status;
 use crate::tests::{USAGE, put_turns, replay, replay_by, sink, source};
 use sg_command::Words;
+use sg_program::{Status, replay_main};
 use sg_refine::{Gate, OpenGate};
 use std::alloc::Global;
 use std::process::Abort;

@@ -1,0 +1,10 @@
+pub mod CauseLemmas
+pub mod CallLemmas
+pub mod EndLemmas
+pub mod WordLemmas
+pub mod Scripted
+pub mod Orders
+pub mod Ended
+pub mod Finished
+pub mod Alike
+pub mod Replays

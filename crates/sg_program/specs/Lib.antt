@@ -1,0 +1,11 @@
+pub mod Asked
+pub mod Faults
+pub mod Plays
+pub mod Runs
+pub mod Makes
+pub mod Threaded
+pub mod Statuses
+pub mod Calls
+pub mod Ends
+pub mod Processes
+pub mod Laws

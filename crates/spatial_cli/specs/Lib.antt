@@ -1,9 +1,0 @@
-pub mod Asked
-pub mod Faults
-pub mod Plays
-pub mod Runs
-pub mod Makes
-pub mod Threaded
-pub mod Calls
-pub mod Statuses
-pub mod Laws

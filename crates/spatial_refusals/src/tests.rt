@@ -1,0 +1,73 @@
+// What the tests share.
+use sg_command::Words;
+use sg_io::{MemorySink, MemorySource};
+use sg_program::{Status, spatial_main};
+use sg_refine::OpenGate;
+use std::alloc::Global;
+use std::process::Abort;
+use std::sync::Wait;
+use std::test::Fail;
+use std::thread::Threads;
+
+/// A script of one transaction, and what it prints.
+pub const FIRST: &[u8] =
+    b"session 1\nbegin\ninsert 1 POINT (3 4)\nselect intersects POINT (3 4)\ncommit\n";
+
+pub const FIRST_TEXT: &[u8] =
+    b"commit 1 session 1 transaction 1\n  inserted\n  keys 1\nrows 1\n  1 POINT (3 4)\n";
+
+pub const USAGE: &[u8] =
+    b"usage: spatial_cli replay [--workers N] [--labels] | threads [--workers N] [--labels] [--trace] | make SEED ROWS SESSIONS\n";
+
+/// The one word `replay`.
+pub fn replay(alloc: Global) -> Result<Words, Fail> {
+    let mut words = Words::new(alloc);
+    words
+        .push(Vec::from_slice(alloc, b"replay")?)
+        .map_err(|_| "no memory for a word")?;
+    Ok(words)
+}
+
+pub fn source(alloc: Global, text: &[u8]) -> Result<MemorySource, Fail> {
+    Ok(MemorySource::new(Vec::from_slice(alloc, text)?, 100, Vec::new(alloc)))
+}
+
+pub fn sink(alloc: Global) -> Result<MemorySink, Fail> {
+    Ok(MemorySink::new(alloc, 100, 65_536, Vec::new(alloc))?)
+}
+
+/// A script is played, and the text that is printed is this one.
+pub fn prints<R: Abort + Threads + Wait + Sync>(
+    rt: &R,
+    alloc: Global,
+    script: &[u8],
+    text: &[u8],
+) -> Result<(), Fail> {
+    let mut source = source(alloc, script)?;
+    let mut out = sink(alloc)?;
+    let mut err = sink(alloc)?;
+    let status = spatial_main(
+        rt,
+        alloc,
+        &replay(alloc)?,
+        &mut source,
+        &mut out,
+        &mut err,
+        &OpenGate,
+    );
+    assert_eq!(rt; status, Status::Done);
+    assert!(rt; out.taken() == text);
+    assert!(rt; err.taken().is_empty());
+    Ok(())
+}
+
+/// Puts a schedule line last: so many turns of the session, one after another.
+pub fn put_turns(text: &mut Vec<u8>, session: &[u8], turns: u32) -> Result<(), Fail> {
+    text.extend_from_slice(b"schedule")?;
+    for _ in 0..turns {
+        text.extend_from_slice(b" ")?;
+        text.extend_from_slice(session)?;
+    }
+    text.extend_from_slice(b"\n")?;
+    Ok(())
+}
