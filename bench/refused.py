@@ -9,10 +9,9 @@ Three scripts are played: a key that is there already, two sessions that wait fo
 with a grid. Of each it is counted how often a whole run asks for memory; then each STEPth of these askings is refused,
 every one where STEP is left out: in one run alone, in another one with all that come after it.
 
-Each run has to end with status 5, nothing printed, and either the message or, where the words of the process found no
-memory, none; or with status 0 and a report that `bench/check_serial.py` accepts: its commits, executed one after
-another on a plain list, give the printed answers and leave the printed rows, by that file and by the program itself.
-The first run that ends otherwise ends the script with status 1. How many ended each way is printed.
+Each run has to end with status 5, nothing printed and the message; or with status 0 and a report that
+`bench/check_serial.py` accepts: its commits, executed one after another on a plain list, give the printed answers and
+leave the printed rows, by that file and by the program itself. The first run that ends otherwise ends the script with status 1. How many ended each way is printed.
 """
 
 import mmap
@@ -123,8 +122,8 @@ class Refusals:
 def ending(program, case, done):
     """How a run has ended, by name, and what is wrong with it, if anything is."""
     _, lines, rows, sessions, _ = case
-    if done.returncode == 5 and not done.stdout and done.stderr in (b"out of memory\n", b""):
-        return ("status 5" if done.stderr else "status 5 without a message"), None
+    if done.returncode == 5 and not done.stdout and done.stderr == b"out of memory\n":
+        return "status 5", None
     if done.returncode or done.stderr:
         return "otherwise", f"status {done.returncode}, {done.stderr}"
     report = report_of(done.stdout.decode())
