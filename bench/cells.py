@@ -66,13 +66,15 @@ def show(program, name, shapes, density, limit, times):
 def main():
     program = sys.argv[1]
     random.seed(7)
-    for density in ("low", "medium", "high"):
+    for density in ("low", "medium", "high", "auto"):
         show(program, "points", points(200), density, 16, 5)
         show(program, "boxes of 10,000", boxes(100, 10_000), density, 16, 5)
         show(program, "boxes of 1,000,000", boxes(100, 1_000_000), density, 16, 5)
     for count in (64, 256, 2047):
         for limit in (16, 256, 8192):
             show(program, f"a star of {count} spots", star(count, 3_000_000, 9_000_000), "medium", limit, 5)
+    for limit in (8, 256, 8192):
+        show(program, "a star of 2047 spots", star(2047, 3_000_000, 9_000_000), "auto", limit, 5)
     show(program, "rows: 5,000 boxes up to 900,000", rectangles(5_000, -15_000_000, 15_000_000, 900_000), "medium", 16, 1)
     show(program, "windows: 1,000 boxes up to 200", rectangles(1_000, -10_000, 10_000, 200), "medium", 16, 5)
     show(program, "the whole box", ["POLYGON ((-16000000 -16000000, 16000000 -16000000, 16000000 16000000, -16000000 16000000, -16000000 -16000000))"], "high", 8192, 100)

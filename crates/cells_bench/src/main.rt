@@ -1,7 +1,7 @@
 //! Cuts shapes into cells, to be timed: `cells_bench DENSITY LIMIT TIMES` reads well-known text, a shape a
 //! line, cuts each shape into the cells of the widest grid with four levels of that density (low, medium or
-//! high), that many times, and prints how many cells all shapes have. It ends with 1 for other words, with 2
-//! for another text, and with 3 where memory is wanting or input or output fails.
+//! high) or with eight levels (auto), that many times, and prints how many cells all shapes have. It ends with 1
+//! for other words, with 2 for another text, and with 3 where memory is wanting or input or output fails.
 #![tactic(auto)]
 
 ghost use Rattle.sg_shape.specs.Sound.{IsSound};
@@ -100,13 +100,19 @@ fn task_of(rt: &HostRuntime) -> Result<Task, Stop> {
     ) else {
         return Err(Stop::Words);
     };
-    let density = density_of(&density).ok_or(Stop::Words)?;
     let limit: i64 = limit.parse().map_err(|_| Stop::Words)?;
     let times: u32 = times.parse().map_err(|_| Stop::Words)?;
-    let grid = Grid::new(-LIMIT, -LIMIT, LIMIT, LIMIT, [density; 4], limit).map_err(
-        |_| Stop::Words,
-    )?;
+    let grid = grid_of(&density, limit)?;
     Ok(Task { grid, times })
+}
+
+/// The widest grid of this density at each of four levels, or of eight levels.
+fn grid_of(word: &str, limit: i64) -> Result<Grid, Stop> {
+    if word == "auto" {
+        return Grid::auto(-LIMIT, -LIMIT, LIMIT, LIMIT, limit).map_err(|_| Stop::Words);
+    }
+    let density = density_of(word).ok_or(Stop::Words)?;
+    Grid::new(-LIMIT, -LIMIT, LIMIT, LIMIT, [density; 4], limit).map_err(|_| Stop::Words)
 }
 
 fn density_of(word: &str) -> Option<Density> {

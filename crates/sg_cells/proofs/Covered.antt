@@ -72,3 +72,7 @@ lies_box g c x y z l = same_box g (block_from g.sides c root) x y z l.across l.c
 
 pub none_of : (g : Grid) (c : Cell) (b : CellBox) → b ≡ box_of g c → (b.xlow ≡ b.xhigh) ⊎ (b.ylow ≡ b.yhigh) → HasNoBox g c
 none_of g c b e h = inr (subst (λ (b : CellBox). (b.xlow ≡ b.xhigh) ⊎ (b.ylow ≡ b.yhigh)) e h)
+
+-- whether a box has area, by what is asked of an equal one
+pub area : (b : CellBox) (b' : CellBox) (r s : Bool) → b ≡ b' → r ≡ (lt_z b.xlow b.xhigh && lt_z b.ylow b.yhigh) → r ≡ s → (lt_z b'.xlow b'.xhigh && lt_z b'.ylow b'.yhigh) ≡ s
+area b b' r s e f g = sym (ap (λ (b : CellBox). lt_z b.xlow b.xhigh && lt_z b.ylow b.yhigh) e) ∙ (sym f ∙ g)

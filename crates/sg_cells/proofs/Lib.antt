@@ -3,6 +3,7 @@ pub mod Split
 pub mod Ids
 pub mod Paths
 pub mod Fronts
+pub mod Counts
 pub mod BoxEdges
 pub mod Tessellates
 pub mod Related
@@ -13,6 +14,7 @@ pub mod Lattices
 pub mod Children
 pub mod Faultless
 pub mod Covered
+pub mod Below
 pub mod Lawful
 pub mod Grown
 pub mod Staying

@@ -1,5 +1,6 @@
--- Grids of four levels of cells, where the cells lie, and their ids. Definitions hold for any number of levels.
-use Rattle.std.specs.Prelude.{◌≡◌, ℕ, zero, suc, ◌+◌, ◌*◌, ◌/◌, ◌%◌, ◌≤◌, ◌<◌, Bool, true, false, not, ◌&&◌, ◌||◌, eqb, ltb, List, [], ◌∷◌, length, ℤ, pos, ◌+ℤ◌, IsTrue, refl}
+-- Grids of levels of cells, where the cells lie, and their ids. Definitions hold for any number of levels; grids in use
+-- have four or eight, and ids have room for eight.
+use Rattle.std.specs.Prelude.{◌≡◌, ◌⊎◌, ℕ, zero, suc, ◌+◌, ◌*◌, ◌/◌, ◌%◌, ◌≤◌, ◌<◌, Bool, true, false, not, ◌&&◌, ◌||◌, eqb, ltb, List, [], ◌∷◌, length, ℤ, pos, ◌+ℤ◌, IsTrue, refl}
 use Rattle.std.specs.Coded.{Coded, code_by, coded×, coded_ℕ, coded_ℤ, coded_list}
 use Rattle.sg_shape.specs.declared.cells.CellBox.{CellBox}
 use Rattle.sg_shape.specs.Plane.{Point}
@@ -162,6 +163,18 @@ path_from (suc l) (suc m) id = (id / weight (suc l)) ∷ path_from l m (id % wei
 abbrev pub path_of : ℕ → ℕ → Cell
 path_of n id = path_from n (id % 256) id
 
+-- the id of a cell that is stored as the places of levels 1 to 4, those of levels 5 to 8, and the level
+abbrev pub stored_id : ℕ → ℕ → ℕ → ℕ
+stored_id upper lower level = (upper * 4294967296 + lower) * 256 + level
+
+-- the places and the level that stand for a cell: its id has a byte for each place
+pub record IsStored (upper lower level : ℕ) : Type 0 where
+  pub code : IsCode 8 (path_of 8 (stored_id upper lower level))
+  pub back : id_of 8 (path_of 8 (stored_id upper lower level)) ≡ stored_id upper lower level
+  pub high : id_of 8 (path_of 8 (stored_id upper lower level)) / 1099511627776 ≡ upper
+  pub middle : id_of 8 (path_of 8 (stored_id upper lower level)) / 256 % 4294967296 ≡ lower
+  pub low : id_of 8 (path_of 8 (stored_id upper lower level)) % 256 ≡ level
+
 -- the last path below a cell
 abbrev pub filled_path : ℕ → Cell → Cell
 filled_path zero ds = ds
@@ -178,7 +191,15 @@ abbrev pub AreSides : List ℕ → Type 0
 AreSides [] = Unit {0}
 AreSides (k ∷ ks) = (k ≤ 4) × AreSides ks
 
--- four levels within the limits of coordinates, and 1 to 8192 cells per object
+-- the eight levels of an automatic grid: the first is split into 16 columns and rows, each further one into 4
+abbrev pub auto_sides : List ℕ
+auto_sides = 4 ∷ 2 ∷ 2 ∷ 2 ∷ 2 ∷ 2 ∷ 2 ∷ 2 ∷ []
+
+-- four levels of any sides, or the eight of an automatic grid
+abbrev pub AreLevels : List ℕ → Type 0
+AreLevels ks = (length ks ≡ 4) ⊎ (ks ≡ auto_sides)
+
+-- four levels or the automatic eight, within the limits of coordinates, and 1 to 8192 cells per object
 pub record IsGrid (g : Grid) : Type 0 where
   pub wide : 1 ≤ g.width
   pub high : 1 ≤ g.height
@@ -186,7 +207,7 @@ pub record IsGrid (g : Grid) : Type 0 where
   pub right : IsTrue (coord_ok (g.west +ℤ pos g.width))
   pub bottom : IsTrue (coord_ok g.south)
   pub top : IsTrue (coord_ok (g.south +ℤ pos g.height))
-  pub levels : length g.sides ≡ 4
+  pub levels : AreLevels g.sides
   pub sides : AreSides g.sides
   pub some : 1 ≤ g.cells
   pub most : g.cells ≤ 8192

@@ -1,4 +1,4 @@
--- The laws of cells, of shapes' cells and of ranges, for ids of n levels where n is at hand and of four else.
+-- The laws of cells, of shapes' cells and of ranges, for ids of n levels where n is at hand and of eight else.
 use Rattle.std.specs.Prelude.{◌≡◌, ◌↔◌, ℕ, suc, ◌<◌, ◌≤◌, max, true, false, ◌&&◌, ltb, leb, List, [], length}
 use Rattle.sg_shape.specs.declared.shapes.Shape.{Shape}
 use Rattle.sg_shape.specs.Plane.{Point, Parts}
@@ -38,7 +38,7 @@ abbrev pub LooksAreRight : Type 0
 LooksAreRight = (s : Shape) → Sees (parts_of s) (look_at s)
 
 abbrev pub CellsStandForShapes : Type 0
-CellsStandForShapes = (g : Grid) (k : Parts) (j : Look) (limit : ℕ) → IsGrid g → Sees k j → Stands 4 g k (tess g j limit)
+CellsStandForShapes = (g : Grid) (k : Parts) (j : Look) (limit : ℕ) → IsGrid g → Sees k j → Stands 8 g k (tess g j limit)
 
 abbrev pub LooksAgree : Type 0
 LooksAgree = (g : Grid) (k : Parts) (i j : Look) (limit : ℕ) → Sees k i → Sees k j → tess g i limit ≡ tess g j limit
@@ -61,10 +61,10 @@ RangesRise = (n hi : ℕ) (qs : List Cell) → n < 256 → AllCodes n qs → Spr
 
 abbrev pub CommonPointsMakeCandidates : Type 0
 CommonPointsMakeCandidates =
-    (g : Grid) (a b : Parts) (rs qs : List Entry) → IsGrid g → Stands 4 g a rs → Stands 4 g b qs → Common a b → is_candidate 4 rs qs ≡ true
+    (g : Grid) (a b : Parts) (rs qs : List Entry) → IsGrid g → Stands 8 g a rs → Stands 8 g b qs → Common a b → is_candidate 8 rs qs ≡ true
 
 abbrev pub SureOnesShareAPoint : Type 0
-SureOnesShareAPoint = (g : Grid) (a b : Parts) (rs qs : List Entry) → Stands 4 g a rs → Stands 4 g b qs → is_sure rs qs ≡ true → Common a b
+SureOnesShareAPoint = (g : Grid) (a b : Parts) (rs qs : List Entry) → Stands 8 g a rs → Stands 8 g b qs → is_sure rs qs ≡ true → Common a b
 
 -- ---- queries
 -- of the shapes that a sound shape grows to there is one, which `grown` gives

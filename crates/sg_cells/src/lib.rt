@@ -1,4 +1,4 @@
-//! Cells of a spatial grid: four levels of them over a box, their ids, the cells of shapes, and the ranges in
+//! Cells of a spatial grid: four or eight levels of them over a box, their ids, the cells of shapes, and the ranges in
 //! which a query looks for cells (SQL Server documentation, Spatial Indexes Overview). The calls make grids,
 //! cells and lists of cells; the laws of the definitions are stated by calls that do nothing.
 //!
@@ -16,10 +16,12 @@ mod faults;
 mod grid;
 mod keys;
 mod laws;
+mod levels;
 mod lists;
 mod marks;
 mod settings;
 
+pub use blocks::Block;
 pub use cell::Cell;
 pub use density::Density;
 pub use faults::GridFault;

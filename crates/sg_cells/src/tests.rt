@@ -78,8 +78,10 @@ fn down_to_a_point(rt: HostRuntime) -> Result<(), Fail> {
     assert_eq!(rt; fourth.parent(), Some(third));
     assert!(rt; first.parent().is_none());
     assert!(rt; first.contains(fourth) && !fourth.contains(first));
-    assert_eq!(rt; fourth.id(), 33_556_996);
-    assert_eq!(rt; first.last_below().id(), 0xff_ff_ff_04);
+    assert_eq!(rt; fourth.id(), 144_126_183_192_133_636);
+    assert_eq!(rt; fourth.last_below().id(), 144_127_282_703_761_160);
+    assert_eq!(rt; first.last_below().id(), 0xff_ff_ff_ff_ff_ff_ff_08);
+    assert_eq!(rt; grid.levels(), 4);
     let whole = grid.whole();
     assert!(rt; whole.xlow == 0 && whole.xhigh == 80 && whole.closed_x && whole.closed_y);
     assert_eq!(rt; grid.cells(), 16);
@@ -93,7 +95,55 @@ fn down_to_a_point(rt: HostRuntime) -> Result<(), Fail> {
         closed_y: false,
     };
     assert_eq!(rt; found, expected);
+    assert!(rt; grid.child_box(third, grid.block_of(third), 10) == Some(expected));
     assert!(rt; grid.box_of(Cell::outside()).is_none());
+    Ok(())
+}
+
+/// The automatic grid from (0, 0) with a cell of the last level for each unit.
+fn auto_grid() -> Result<Grid, GridFault>
+    ensures { IfOk result (λ grid. grid.sides ≡ 4 ∷ 2 ∷ 2 ∷ 2 ∷ 2 ∷ 2 ∷ 2 ∷ 2 ∷ []) }
+{
+    Grid::auto(0, 0, 262_144, 262_144, 8)
+}
+
+#[test]
+fn eight_levels(rt: HostRuntime) -> Result<(), Fail> {
+    let grid = auto_grid()?;
+    assert_eq!(rt; grid.levels(), 8);
+    assert_eq!(rt; grid.cells(), 8);
+    assert_eq!(rt; grid.side(1), 16);
+    assert_eq!(rt; grid.side(8), 4);
+    // the lower right corner
+    let second = grid.child(Some(grid.child(None, 255)), 15);
+    let fourth = grid.child(Some(grid.child(Some(second), 15)), 15);
+    let sixth = grid.child(Some(grid.child(Some(fourth), 15)), 15);
+    let cell = grid.child(Some(grid.child(Some(sixth), 15)), 15);
+    assert_eq!(rt; cell.level(), 8);
+    assert_eq!(rt; cell.place(1), 255);
+    assert!(rt; cell.place(2) == 15 && cell.place(8) == 15);
+    assert_eq!(rt; cell.id(), 0xff_0f_0f_0f_0f_0f_0f_0f_08);
+    assert_eq!(rt; cell.last_below(), cell);
+    assert_eq!(rt; cell.front(4), fourth);
+    assert_eq!(rt; fourth.id(), 0xff_0f_0f_0f_00_00_00_00_04);
+    assert_eq!(rt; fourth.last_below().id(), 0xff_0f_0f_0f_ff_ff_ff_ff_08);
+    assert!(rt; fourth.contains(cell) && !cell.contains(fourth));
+    let found = grid.box_of(cell).ok_or("the box")?;
+    let expected = CellBox {
+        xlow: 262_143,
+        ylow: 0,
+        xhigh: 262_144,
+        yhigh: 1,
+        closed_x: true,
+        closed_y: false,
+    };
+    assert_eq!(rt; found, expected);
+    assert_eq!(rt; Grid::auto(0, 9, 5, 8, 8).err(), Some(GridFault::BoxEmpty));
+    assert_eq!(rt; Grid::auto(0, 0, 5, 9, 0).err(), Some(GridFault::CellsOut));
+    assert_eq!(rt;
+        Grid::auto(0, 0, 16_000_001, 9, 8).err(),
+        Some(GridFault::CoordOut)
+    );
     Ok(())
 }
 

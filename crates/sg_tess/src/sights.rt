@@ -4,14 +4,14 @@ ghost use Rattle.sg_shape.specs.Sound.{IsSound};
 ghost use Rattle.sg_nearby.specs.Nearby.{SameIn};
 ghost use Rattle.sg_hilbert.specs.Curve.{IsSide, doublings, four_to, two_to};
 ghost use Rattle.sg_cells.specs.Cells.{IsGrid, IsPath, box_of, split_of};
-ghost use Rattle.sg_cells.specs.Grids.{CanSplit};
+ghost use Rattle.sg_cells.specs.Grids.{CanSplit, IsBlock};
 ghost use Rattle.sg_cells.specs.Tess.{look_at, kids};
 ghost use Rattle.sg_plane.specs.Decisions.{meets_box, covers_box};
 ghost use Rattle.sg_tess.specs.Sights.{IsReach, IsSight, mark_by, overlaps, is_near};
 
 use crate::reaches::Reach;
 use crate::sizes::has_many;
-use sg_cells::{Cell, Grid, Mark};
+use sg_cells::{Block, Cell, Grid, Mark};
 use sg_nearby::nearby;
 use sg_shape::{Bounds, CellBox, CellJudge, Shape};
 use std::alloc::{AllocError, Global};
@@ -64,14 +64,22 @@ impl<'a, C: CellJudge> Sight<'a, C> {
         }
     }
 
-    /// The mark of a cell, where the shape meets it.
-    fn mark_of(&self, alloc: Global, cell: Cell) -> Result<Option<Mark>, AllocError>
+    /// The mark of the child at a place, where the shape meets it.
+    fn mark_of(
+        &self,
+        alloc: Global,
+        parent: Cell,
+        block: Block,
+        place: u8,
+    ) -> Result<Option<Mark>, AllocError>
         requires sight { IsSight self.now.grid.now self.now.shape.now self.now.bounds }
-        requires path { IsPath self.now.grid.now.sides cell }
-        requires level { 1 ≤ length cell }
-        ensures { IfOk result (λ mark. mark ≡ mark_by (look_at self.now.shape.now) (box_of self.now.grid.now cell)) }
+        requires path { IsPath self.now.grid.now.sides parent }
+        requires level { length parent < length self.now.grid.now.sides }
+        requires block { IsBlock self.now.grid.now parent block }
+        requires place { place < four_to (split_of self.now.grid.now.sides parent) }
+        ensures { IfOk result (λ mark. mark ≡ mark_by (look_at self.now.shape.now) (box_of self.now.grid.now (parent ++ place ∷ []))) }
     {
-        match self.grid.box_of(cell) {
+        match self.grid.child_box(parent, block, place) {
             None => Ok(None),
             Some(found) => self.mark_in(alloc, &found),
         }
@@ -87,7 +95,7 @@ impl<'a, C: CellJudge> Sight<'a, C> {
     ) -> Result<Option<Vec<(Cell, Mark)>>, AllocError>
         requires sight { IsSight self.now.grid.now self.now.shape.now self.now.bounds }
         requires path { IsPath self.now.grid.now.sides parent }
-        requires level { length parent ≤ 3 }
+        requires level { length parent < length self.now.grid.now.sides }
         ensures { IfOk result (λ list. MatchOption list (room < length (kids self.now.grid.now (look_at self.now.shape.now) parent)) (λ entries. (entries.items ≡ kids self.now.grid.now (look_at self.now.shape.now) parent) × (length entries.items ≤ room))) }
     {
         match self.grid.box_of(parent) {
@@ -106,7 +114,7 @@ impl<'a, C: CellJudge> Sight<'a, C> {
     ) -> Result<Option<Vec<(Cell, Mark)>>, AllocError>
         requires sight { IsSight self.now.grid.now self.now.shape.now self.now.bounds }
         requires path { IsPath self.now.grid.now.sides parent }
-        requires level { length parent ≤ 3 }
+        requires level { length parent < length self.now.grid.now.sides }
         requires found { found.now ≡ box_of self.now.grid.now parent }
         ensures { IfOk result (λ list. MatchOption list (room < length (kids self.now.grid.now (look_at self.now.shape.now) parent)) (λ entries. (entries.items ≡ kids self.now.grid.now (look_at self.now.shape.now) parent) × (length entries.items ≤ room))) }
     {
@@ -124,7 +132,7 @@ impl<'a, C: CellJudge> Sight<'a, C> {
     ) -> Result<Option<Vec<(Cell, Mark)>>, AllocError>
         requires sight { IsSight self.now.grid.now self.now.shape.now self.now.bounds }
         requires path { IsPath self.now.grid.now.sides parent }
-        requires level { length parent ≤ 3 }
+        requires level { length parent < length self.now.grid.now.sides }
         requires sound { IsSound near.now }
         requires same { SameIn (box_of self.now.grid.now parent) near.now self.now.shape.now }
         ensures { IfOk result (λ list. MatchOption list (room < length (kids self.now.grid.now (look_at self.now.shape.now) parent)) (λ entries. (entries.items ≡ kids self.now.grid.now (look_at self.now.shape.now) parent) × (length entries.items ≤ room))) }
@@ -150,14 +158,15 @@ impl<'a, C: CellJudge> Sight<'a, C> {
     ) -> Result<Option<Vec<(Cell, Mark)>>, AllocError>
         requires sight { IsSight self.now.grid.now self.now.shape.now self.now.bounds }
         requires path { IsPath self.now.grid.now.sides parent }
-        requires level { length parent ≤ 3 }
+        requires level { length parent < length self.now.grid.now.sides }
         ensures { IfOk result (λ list. MatchOption list (room < length (kids self.now.grid.now (look_at self.now.shape.now) parent)) (λ entries. (entries.items ≡ kids self.now.grid.now (look_at self.now.shape.now) parent) × (length entries.items ≤ room))) }
     {
-        let reach = self.reach(parent);
+        let block = self.grid.block_of(parent);
+        let reach = self.reach(parent, block);
         let mut entries = Vec::new(alloc);
         for place in 0..places_in(self.grid, parent) {
             let cell = child_of(self.grid, parent, place);
-            if let Some(mark) = self.mark_at(alloc, parent, place, &reach)? {
+            if let Some(mark) = self.mark_at(alloc, parent, block, place, &reach)? {
                 if entries.len() == room {
                     return Ok(None);
                 }
@@ -172,19 +181,21 @@ impl<'a, C: CellJudge> Sight<'a, C> {
         &self,
         alloc: Global,
         parent: Cell,
+        block: Block,
         place: u16,
         reach: &Reach,
     ) -> Result<Option<Mark>, AllocError>
         requires sight { IsSight self.now.grid.now self.now.shape.now self.now.bounds }
         requires path { IsPath self.now.grid.now.sides parent }
-        requires level { length parent ≤ 3 }
+        requires level { length parent < length self.now.grid.now.sides }
+        requires block { IsBlock self.now.grid.now parent block }
         requires place { place < four_to (split_of self.now.grid.now.sides parent) }
         requires most { place < 256 }
         requires reach { IsReach self.now.grid.now parent self.now.bounds reach.now }
         ensures { IfOk result (λ mark. mark ≡ mark_by (look_at self.now.shape.now) (box_of self.now.grid.now (parent ++ place ∷ []))) }
     {
         if reach.has(side_under(self.grid, parent), place as u8) {
-            self.mark_of(alloc, child_of(self.grid, parent, place))
+            self.mark_of(alloc, parent, block, place as u8)
         } else {
             Ok(None)
         }
@@ -195,7 +206,7 @@ impl<'a, C: CellJudge> Sight<'a, C> {
 pub(crate) fn places_in(grid: &Grid, parent: Cell) -> u16
     requires grid { IsGrid grid.now }
     requires path { IsPath grid.now.sides parent }
-    requires level { length parent ≤ 3 }
+    requires level { length parent < length grid.now.sides }
     ensures places { result ≡ four_to (split_of grid.now.sides parent) }
     ensures most { result ≤ 256 }
 {
@@ -207,7 +218,7 @@ pub(crate) fn places_in(grid: &Grid, parent: Cell) -> u16
 pub(crate) fn side_under(grid: &Grid, parent: Cell) -> u8
     requires grid { IsGrid grid.now }
     requires path { IsPath grid.now.sides parent }
-    requires level { length parent ≤ 3 }
+    requires level { length parent < length grid.now.sides }
     ensures side { IsSide result }
     ensures doublings { doublings result ≡ split_of grid.now.sides parent }
     ensures columns { result ≡ two_to (split_of grid.now.sides parent) }
@@ -218,9 +229,9 @@ pub(crate) fn side_under(grid: &Grid, parent: Cell) -> u8
 }
 
 /// The child at a place of a cell; cell 0 stands for the whole box.
-pub(crate) fn child_of(grid: &Grid, parent: Cell, place: u16) -> Cell
+fn child_of(grid: &Grid, parent: Cell, place: u16) -> Cell
     requires path { IsPath grid.now.sides parent }
-    requires level { length parent ≤ 3 }
+    requires level { length parent < length grid.now.sides }
     requires place { place < four_to (split_of grid.now.sides parent) }
     requires most { place < 256 }
     ensures places { result ≡ parent ++ place ∷ [] }

@@ -83,7 +83,7 @@ fn change_of(alloc: Global, statement: Statement) -> Result<Change, AllocError>
 }
 
 /// What a statement answers, in short.
-#[derive(Clone, Copy, Debug, PartialEq, Eq)]
+#[derive(Clone, Copy, PartialEq, Eq)]
 enum Short {
     Inserted,
     Duplicate,
@@ -92,6 +92,8 @@ enum Short {
     Other,
     /// Another session is in the way.
     Kept,
+    /// Memory was wanting.
+    Wanting,
 }
 
 fn in_short(answer: &Answer) -> Short {
@@ -104,75 +106,79 @@ fn in_short(answer: &Answer) -> Short {
     }
 }
 
+/// What the change answers on row 1, whose key is put first.
+fn finished(alloc: Global, s: Session, change: Change, rows: &mut Rows) -> Short
+    requires writes { Writes change.statement }
+    requires sound { IsSoundStatement change.statement }
+{
+    let mut cells = CellRows::new(alloc);
+    if put_key(s, rows).is_err() {
+        return Short::Wanting;
+    }
+    if is_alone(&change, s, rows, &cells) {
+        in_short(&change.finish(s, rows, &mut cells))
+    } else {
+        Short::Kept
+    }
+}
+
 /// What the statement on row 1 answers, whose key is put first.
-fn answered(
-    alloc: Global,
-    s: Session,
-    statement: Statement,
-    rows: &mut Rows,
-) -> Result<Short, AllocError>
+fn answered(alloc: Global, s: Session, statement: Statement, rows: &mut Rows) -> Short
     requires writes { Writes statement }
     requires sound { IsSoundStatement statement }
 {
-    let mut cells = CellRows::new(alloc);
-    let change = change_of(alloc, statement)?;
-    put_key(s, rows)?;
-    if is_alone(&change, s, rows, &cells) {
-        Ok(in_short(&change.finish(s, rows, &mut cells)))
-    } else {
-        Ok(Short::Kept)
+    match change_of(alloc, statement) {
+        Ok(change) => finished(alloc, s, change, rows),
+        Err(_) => Short::Wanting,
     }
 }
 
 /// What an insert of the row 1 at (5, 5) answers.
-fn insert_one(alloc: Global, s: Session, rows: &mut Rows) -> Result<Short, AllocError> {
+fn insert_one(alloc: Global, s: Session, rows: &mut Rows) -> Short {
     let insert = Statement::Insert(1, Shape::Point(Spot { x: 5, y: 5 }));
     answered(alloc, s, insert, rows)
 }
 
 /// What an update of it to (50, 50) answers.
-fn update_one(alloc: Global, s: Session, rows: &mut Rows) -> Result<Short, AllocError> {
+fn update_one(alloc: Global, s: Session, rows: &mut Rows) -> Short {
     let update = Statement::Update(1, Shape::Point(Spot { x: 50, y: 50 }));
     answered(alloc, s, update, rows)
 }
 
 /// What its delete answers.
-fn delete_one(alloc: Global, s: Session, rows: &mut Rows) -> Result<Short, AllocError> {
+fn delete_one(alloc: Global, s: Session, rows: &mut Rows) -> Short {
     answered(alloc, s, Statement::Delete(1), rows)
 }
 
 // A row is put once.
 #[test]
 fn a_row_is_put_once(rt: HostRuntime) -> Result<(), Fail> {
-    let alloc = rt.alloc();
     let s = Session::new(1).ok_or("a session")?;
-    let mut rows = Rows::new(alloc);
-    assert_eq!(rt; insert_one(alloc, s, &mut rows)?, Short::Inserted);
-    assert_eq!(rt; insert_one(alloc, s, &mut rows)?, Short::Duplicate);
-    assert_eq!(rt; update_one(alloc, s, &mut rows)?, Short::Done);
+    let mut rows = Rows::new(rt.alloc());
+    assert!(rt; insert_one(rt.alloc(), s, &mut rows) == Short::Inserted);
+    assert!(rt; insert_one(rt.alloc(), s, &mut rows) == Short::Duplicate);
+    assert!(rt; update_one(rt.alloc(), s, &mut rows) == Short::Done);
     Ok(())
 }
 
 // A row is gone after its delete.
 #[test]
 fn a_row_goes(rt: HostRuntime) -> Result<(), Fail> {
-    let alloc = rt.alloc();
     let s = Session::new(1).ok_or("a session")?;
-    let mut rows = Rows::new(alloc);
-    insert_one(alloc, s, &mut rows)?;
-    assert_eq!(rt; delete_one(alloc, s, &mut rows)?, Short::Done);
-    assert_eq!(rt; update_one(alloc, s, &mut rows)?, Short::Missing);
+    let mut rows = Rows::new(rt.alloc());
+    assert!(rt; insert_one(rt.alloc(), s, &mut rows) == Short::Inserted);
+    assert!(rt; delete_one(rt.alloc(), s, &mut rows) == Short::Done);
+    assert!(rt; update_one(rt.alloc(), s, &mut rows) == Short::Missing);
     Ok(())
 }
 
 // What one session has written no other may.
 #[test]
 fn another_session_is_in_the_way(rt: HostRuntime) -> Result<(), Fail> {
-    let alloc = rt.alloc();
     let s = Session::new(1).ok_or("a session")?;
     let other = Session::new(2).ok_or("a session")?;
-    let mut rows = Rows::new(alloc);
-    insert_one(alloc, s, &mut rows)?;
-    assert_eq!(rt; insert_one(alloc, other, &mut rows)?, Short::Kept);
+    let mut rows = Rows::new(rt.alloc());
+    assert!(rt; insert_one(rt.alloc(), s, &mut rows) == Short::Inserted);
+    assert!(rt; insert_one(rt.alloc(), other, &mut rows) == Short::Kept);
     Ok(())
 }

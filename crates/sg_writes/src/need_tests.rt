@@ -66,14 +66,22 @@ fn holding(alloc: Global, s: Session, key: Key, mode: Mode) -> Result<Locks<Key>
     Ok(locks)
 }
 
-/// A table in which the session has put the key 1.
-fn with_key(alloc: Global, s: Session) -> Result<Rows, AllocError> {
-    let mut rows = Rows::new(alloc);
+/// Puts the key 1.
+fn put_key(rows: &mut Rows, s: Session) -> Result<(), AllocError> {
     rows.reserve(1)?;
     if !rows.present(1) {
         rows.put_reserved(s, 1);
     }
-    Ok(rows)
+    Ok(())
+}
+
+/// A table in which the session has put the key 1.
+fn with_key(alloc: Global, s: Session) -> Result<Rows, AllocError> {
+    let mut rows = Rows::new(alloc);
+    match put_key(&mut rows, s) {
+        Ok(()) => Ok(rows),
+        Err(wanting) => Err(wanting),
+    }
 }
 
 /// Whether the act puts row 1 below the end of the rows, in this mode.
@@ -98,73 +106,137 @@ fn locks_key(act: Option<Act>, key: Key, mode: Mode) -> bool {
     }
 }
 
-// A new key stands below the next one, in X, or in RangeX-X where its session locks the gap.
+/// Whether the insert first puts row 1 below the end of the rows, in this mode.
+fn inserts(alloc: Global, s: Session, locks: &Locks<Key>, mode: Mode) -> bool {
+    let none = KeyList::new(alloc);
+    match first_act(alloc, s, insert_one(), none, &Rows::new(alloc), locks) {
+        Ok(act) => puts_row(act, mode),
+        Err(_) => false,
+    }
+}
+
+/// What a delete of row 1 does first.
+fn deletes(
+    alloc: Global,
+    s: Session,
+    rows: &Rows,
+    locks: &Locks<Key>,
+) -> Result<Option<Act>, AllocError> {
+    let none = KeyList::new(alloc);
+    first_act(alloc, s, Statement::Delete(1), none, rows, locks)
+}
+
+/// Whether the delete first asks for this key in this mode.
+fn delete_locks(
+    alloc: Global,
+    s: Session,
+    rows: &Rows,
+    locks: &Locks<Key>,
+    key: Key,
+    mode: Mode,
+) -> bool {
+    match deletes(alloc, s, rows, locks) {
+        Ok(act) => locks_key(act, key, mode),
+        Err(_) => false,
+    }
+}
+
+/// Whether the delete needs nothing.
+fn delete_is_free(alloc: Global, s: Session, rows: &Rows, locks: &Locks<Key>) -> bool {
+    match deletes(alloc, s, rows, locks) {
+        Ok(act) => act.is_none(),
+        Err(_) => false,
+    }
+}
+
+/// What a delete where of the keys that were selected does first, in an empty table.
+fn deletes_selected(
+    alloc: Global,
+    s: Session,
+    selected: KeyList,
+) -> Result<Option<Act>, AllocError> {
+    let delete = Statement::DeleteWhere(Query {
+        test: Test::Relate(Pred::Intersects),
+        shape: Shape::Point(Spot { x: 5, y: 5 }),
+    });
+    first_act(
+        alloc,
+        s,
+        delete,
+        selected,
+        &Rows::new(alloc),
+        &Locks::new(alloc),
+    )
+}
+
+fn selected_is_locked(alloc: Global, s: Session) -> bool {
+    let mut selected = KeyList::new(alloc);
+    if selected.push(1).is_err() {
+        return false;
+    }
+    match deletes_selected(alloc, s, selected) {
+        Ok(act) => locks_key(act, Key::Row(1), Mode::X),
+        Err(_) => false,
+    }
+}
+
+// A new key stands below the next one, in X.
 #[test]
-fn a_new_key_keeps_its_own_gap(rt: HostRuntime) -> Result<(), Fail> {
-    let alloc = rt.alloc();
+fn a_new_key(rt: HostRuntime) -> Result<(), Fail> {
     let s = Session::new(1).ok_or("a session")?;
-    let rows = Rows::new(alloc);
-    let none = Locks::new(alloc);
-    let act = first_act(alloc, s, insert_one(), KeyList::new(alloc), &rows, &none)?;
-    assert!(rt; puts_row(act, Mode::X));
-    let locks = holding(alloc, s, Key::RowEnd, Mode::RangeSS)?;
-    let act = first_act(alloc, s, insert_one(), KeyList::new(alloc), &rows, &locks)?;
-    assert!(rt; puts_row(act, Mode::RangeXX));
+    assert!(rt; inserts(rt.alloc(), s, &Locks::new(rt.alloc()), Mode::X));
     Ok(())
 }
 
-// A row that is absent is locked by its gap, one that was selected in X, and nothing more of one that isn't seen.
+// It stands there in RangeX-X where its session locks the gap.
+#[test]
+fn a_new_key_keeps_its_own_gap(rt: HostRuntime) -> Result<(), Fail> {
+    let s = Session::new(1).ok_or("a session")?;
+    let locks = holding(rt.alloc(), s, Key::RowEnd, Mode::RangeSS)?;
+    assert!(rt; inserts(rt.alloc(), s, &locks, Mode::RangeXX));
+    Ok(())
+}
+
+// A row that is absent is locked by its gap.
+#[test]
+fn an_absent_row_is_locked(rt: HostRuntime) -> Result<(), Fail> {
+    let s = Session::new(1).ok_or("a session")?;
+    let rows = Rows::new(rt.alloc());
+    let locks = Locks::new(rt.alloc());
+    assert!(rt; delete_locks(rt.alloc(), s, &rows, &locks, Key::RowEnd, Mode::RangeSS));
+    Ok(())
+}
+
+// One that is there is locked in X.
 #[test]
 fn a_row_is_locked(rt: HostRuntime) -> Result<(), Fail> {
-    let alloc = rt.alloc();
     let s = Session::new(1).ok_or("a session")?;
-    let rows = Rows::new(alloc);
-    let none = Locks::new(alloc);
-    let act = first_act(
-        alloc,
-        s,
-        Statement::Delete(1),
-        KeyList::new(alloc),
-        &rows,
-        &none,
-    )?;
-    assert!(rt; locks_key(act, Key::RowEnd, Mode::RangeSS));
-    let rows = with_key(alloc, s)?;
-    let act = first_act(
-        alloc,
-        s,
-        Statement::Delete(1),
-        KeyList::new(alloc),
-        &rows,
-        &none,
-    )?;
-    assert!(rt; locks_key(act, Key::Row(1), Mode::X));
-    let locks = holding(alloc, s, Key::Row(1), Mode::X)?;
-    let act = first_act(
-        alloc,
-        s,
-        Statement::Delete(1),
-        KeyList::new(alloc),
-        &rows,
-        &locks,
-    )?;
-    assert!(rt; act.is_none());
+    let rows = with_key(rt.alloc(), s)?;
+    let locks = Locks::new(rt.alloc());
+    assert!(rt; delete_locks(rt.alloc(), s, &rows, &locks, Key::Row(1), Mode::X));
+    Ok(())
+}
+
+fn holds_enough(alloc: Global, s: Session, rows: &Rows) -> bool {
+    match holding(alloc, s, Key::Row(1), Mode::X) {
+        Ok(locks) => delete_is_free(alloc, s, rows, &locks),
+        Err(_) => false,
+    }
+}
+
+// Nothing more of one that isn't seen.
+#[test]
+fn a_locked_row_needs_nothing(rt: HostRuntime) -> Result<(), Fail> {
+    let s = Session::new(1).ok_or("a session")?;
+    let rows = with_key(rt.alloc(), s)?;
+    assert!(rt; holds_enough(rt.alloc(), s, &rows));
     Ok(())
 }
 
 // Each row that a delete where selects is locked.
 #[test]
 fn a_row_that_was_selected_is_locked(rt: HostRuntime) -> Result<(), Fail> {
-    let alloc = rt.alloc();
     let s = Session::new(1).ok_or("a session")?;
-    let mut selected = KeyList::new(alloc);
-    selected.push(1).map_err(|_| "memory")?;
-    let delete = Statement::DeleteWhere(Query {
-        test: Test::Relate(Pred::Intersects),
-        shape: Shape::Point(Spot { x: 5, y: 5 }),
-    });
-    let none = Locks::new(alloc);
-    let act = first_act(alloc, s, delete, selected, &Rows::new(alloc), &none)?;
-    assert!(rt; locks_key(act, Key::Row(1), Mode::X));
+    assert!(rt; selected_is_locked(rt.alloc(), s));
     Ok(())
 }

@@ -1,55 +1,57 @@
-use Rattle.std.proofs.Common.{◌≡◌, ◌≤◌, ◌<◌, ◌-◌, ℕ, ◌+◌, ◌%◌, ◌∙◌, ap, sym, subst, arith, length}
-use Rattle.sg_cells.specs.Cells.{Cell, IsCode, id_of, last_of, path_of, last_path, filled}
+use Rattle.std.proofs.Common.{◌≡◌, ◌≤◌, ◌-◌, ℕ, suc, ◌+◌, ◌%◌, ◌∙◌, ap, sym, subst, arith, length}
+use Rattle.sg_cells.specs.Cells.{Cell, IsCode, id_of, last_of, path_of, last_path, filled, weight}
+use Rattle.sg_cells.proofs.Ids.{filled_is}
+use Rattle.sg_cells.proofs.Children.{id_small}
 use Rattle.sg_cells.proofs.Paths.{last_id, last_code, last_by_level, level_of_id, path_of_id, short_code}
 use Rattle.sg_cells.proofs.cell.Cell.last_below.Goals as goal
-use Rattle.sg_cells.proofs.cell.Cell.last_below.Goals.{in-1, in-2, in-3, in_default}
 
--- by the level, what fills the id
-made : (p : Cell) (id f : ℕ) → IsCode 4 p → id_of 4 p ≡ id → 0 < length p → f ≡ filled (4 - length p) → path_of 4 (id - id % 256 + f + 4) ≡ last_path 4 p
-made p id f h e l q =
-    let v : id % 256 ≡ length p = ap (λ x. x % 256) (sym e) ∙ level_of_id 4 p (omega arith) h in
-    let s = last_by_level 4 p h l in
+record Made (p : Cell) (id : ℕ) : Type 0 where
+  path : path_of 8 id ≡ last_path 8 p
+  code : IsCode 8 (path_of 8 id)
+  back : id_of 8 (path_of 8 id) ≡ id
+
+-- the last id by the id, its level and what one place of the level counts
+made : (p : Cell) (id unit level : ℕ) → IsCode 8 p → id_of 8 p ≡ id → level ≡ length p → (level ≡ 0 → ⊥) → unit ≡ weight (9 - level) → Made p (id - level + (unit - 256) + 8)
+made p id unit level h e l z u =
+    let k = short_code 8 p h in
+    let a : 9 - level ≡ suc (8 - length p) = omega arith in
+    let f : filled (8 - length p) + 256 ≡ unit = filled_is (8 - length p) ∙ sym (u ∙ ap weight a) in
+    let s = last_by_level 8 p h (omega arith) in
+    let v : id % 256 ≡ length p = ap (λ x. x % 256) (sym e) ∙ level_of_id 8 p (omega arith) h in
     let b : id % 256 ≤ id = omega arith in
-    let w : id - id % 256 + f + 4 ≡ last_of 4 p = omega arith in
-    ap (path_of 4) (w ∙ sym (last_id 4 p h)) ∙ path_of_id 4 (last_path 4 p) (omega arith) (last_code 4 p h)
+    let w : last_of 8 p ≡ id - level + (unit - 256) + 8 = omega arith in
+    let t : id_of 8 (last_path 8 p) ≡ id - level + (unit - 256) + 8 = last_id 8 p h ∙ w in
+    let q : path_of 8 (id - level + (unit - 256) + 8) ≡ last_path 8 p = ap (path_of 8) (sym t) ∙ path_of_id 8 (last_path 8 p) (omega arith) (last_code 8 p h) in
+    record { path = q; code = subst (IsCode 8) (sym q) (last_code 8 p h); back = ap (id_of 8) q ∙ t }
 
--- at level 1 to 4
-filled_at : (p : Cell) (n f : ℕ) → length p ≡ n → f ≡ filled (4 - n) → f ≡ filled (4 - length p)
-filled_at p n f e h = rw e h
+pub overflow_sub-id : goal.overflow_sub-id
+overflow_sub-id c =
+    let v : c.id.result % 256 ≡ length c.args.self.now = ap (λ x. x % 256) c.id.ensures ∙ level_of_id 8 c.args.self.now (omega arith) c.in_bytes.ensures.code in
+    let l = c.level-level.ensures.level in
+    omega arith
 
-level_is : (p : Cell) (id : ℕ) → IsCode 4 p → id_of 4 p ≡ id → length p ≡ id % 256
-level_is p id h e = sym (level_of_id 4 p (omega arith) h) ∙ ap (λ x. x % 256) e
+pub overflow_add-id : goal.overflow_add-id
+overflow_add-id c =
+    let s = id_small c.args.self.now c.in_bytes.ensures.code in
+    let e = c.id.ensures in
+    let m = c.unit_of.ensures.most in
+    omega arith
 
-by_level : (p : Cell) (id f : ℕ) → IsCode 4 p → id_of 4 p ≡ id → (id % 256 ≡ 0 → ⊥) → f ≡ filled (4 - id % 256) → path_of 4 (id - id % 256 + f + 4) ≡ last_path 4 p
-by_level p id f h e z q = let l = level_is p id h e in made p id f h e (omega arith) (filled_at p (id % 256) f l q)
+pub overflow_add-id-2 : goal.overflow_add-id-2
+overflow_add-id-2 c =
+    let s = id_small c.args.self.now c.in_bytes.ensures.code in
+    let e = c.id.ensures in
+    let m = c.unit_of.ensures.most in
+    omega arith
 
-most : (p : Cell) (id : ℕ) → IsCode 4 p → id_of 4 p ≡ id → id % 256 ≤ 4
-most p id h e = let l = level_is p id h e in let s = short_code 4 p h in omega arith
+pub of-requires-clause-code : goal.of-requires-clause-code
+of-requires-clause-code c = (made c.args.self.now c.id.result c.unit_of.result c.level-level.result c.in_bytes.ensures.code (sym c.id.ensures) c.level-level.ensures.level c.if-level-eq0.false c.unit_of.ensures.unit).code
+
+pub of-requires-clause-back : goal.of-requires-clause-back
+of-requires-clause-back c = (made c.args.self.now c.id.result c.unit_of.result c.level-level.result c.in_bytes.ensures.code (sym c.id.ensures) c.level-level.ensures.level c.if-level-eq0.false c.unit_of.ensures.unit).back
 
 pub returns-clause-path : goal.returns-clause-path
-returns-clause-path c =
-    let id = c.self.inside.id in
-    subst (λ p. path_of 4 (id - id % 256 + c.match-level.filled + 4) ≡ last_path 4 p) c.self.view_is
-    (by_level (path_of 4 id) id c.match-level.filled c.self.invariant.0 c.self.invariant.1 c.if-level-eq0.false
-    (elim c.match-level.branch [
-      | in-1 w ↦ rw w.in-1.is w.filled-is
-      | in-2 w ↦ rw w.in-2.is w.filled-is
-      | in-3 w ↦ rw w.in-3.is w.filled-is
-      | in_default w ↦ (let m = most (path_of 4 id) id c.self.invariant.0 c.self.invariant.1 in let z : id % 256 ≡ 4 = omega arith in rw z w.filled-is)
-    ]))
-
-last_of_made : (p : Cell) (q : Cell) → IsCode 4 p → q ≡ last_path 4 p → id_of 4 q ≡ last_of 4 p
-last_of_made p q h e = ap (id_of 4) e ∙ last_id 4 p h
+returns-clause-path c = c.of.ensures ∙ (made c.args.self.now c.id.result c.unit_of.result c.level-level.result c.in_bytes.ensures.code (sym c.id.ensures) c.level-level.ensures.level c.if-level-eq0.false c.unit_of.ensures.unit).path
 
 pub returns-clause-last : goal.returns-clause-last
-returns-clause-last c =
-    let id = c.self.inside.id in
-    subst (λ p. id_of 4 (path_of 4 (id - id % 256 + c.match-level.filled + 4)) ≡ last_of 4 p) c.self.view_is
-    (last_of_made (path_of 4 id) (path_of 4 (id - id % 256 + c.match-level.filled + 4)) c.self.invariant.0
-    (by_level (path_of 4 id) id c.match-level.filled c.self.invariant.0 c.self.invariant.1 c.if-level-eq0.false
-    (elim c.match-level.branch [
-      | in-1 w ↦ rw w.in-1.is w.filled-is
-      | in-2 w ↦ rw w.in-2.is w.filled-is
-      | in-3 w ↦ rw w.in-3.is w.filled-is
-      | in_default w ↦ (let m = most (path_of 4 id) id c.self.invariant.0 c.self.invariant.1 in let z : id % 256 ≡ 4 = omega arith in rw z w.filled-is)
-    ])))
+returns-clause-last c = ap (id_of 8) (c.of.ensures ∙ (made c.args.self.now c.id.result c.unit_of.result c.level-level.result c.in_bytes.ensures.code (sym c.id.ensures) c.level-level.ensures.level c.if-level-eq0.false c.unit_of.ensures.unit).path) ∙ last_id 8 c.args.self.now c.in_bytes.ensures.code

@@ -1,45 +1,30 @@
-use Rattle.std.proofs.Common.{◌≡◌, ◌<◌, ◌+◌, ◌*◌, ◌++◌, [], ◌∷◌, length, ◌∙◌, ap, sym, subst, arith}
-use Rattle.sg_cells.specs.Cells.{path_of}
+use Rattle.std.proofs.Common.{◌∙◌, sym, arith}
 use Rattle.sg_cells.proofs.Children.{id_small, made}
 use Rattle.sg_cells.proofs.cell.Cell.with_place.Goals as goal
 
-pub overflow_mul-result : goal.overflow_mul-result
-overflow_mul-result c =
+pub overflow_add-id : goal.overflow_add-id
+overflow_add-id c =
     let m = c.unit_of.ensures.most in
     let p = c.ranges.place.fits in
-    let q = Rattle.std.proofs.lemmas.Nat.mul-le c.args.place c.unit_of.result 256 4294967296 (omega arith) m in
+    let q = Rattle.std.proofs.lemmas.Nat.mul-le c.args.place c.unit_of.result 256 18446744073709551616 (omega arith) m in
+    let s = id_small c.args.self.now c.in_bytes.ensures.code in
+    let e = c.id.ensures in
     omega arith
 
-pub overflow_add-result : goal.overflow_add-result
-overflow_add-result c =
+pub overflow_add-id-2 : goal.overflow_add-id-2
+overflow_add-id-2 c =
     let m = c.unit_of.ensures.most in
     let p = c.ranges.place.fits in
-    let q = Rattle.std.proofs.lemmas.Nat.mul-le c.args.place c.unit_of.result 256 4294967296 (omega arith) m in
-    let s = id_small (path_of 4 c.self.inside.id) c.self.invariant.0 in
-    let e = c.self.invariant.1 in
+    let q = Rattle.std.proofs.lemmas.Nat.mul-le c.args.place c.unit_of.result 256 18446744073709551616 (omega arith) m in
+    let s = id_small c.args.self.now c.in_bytes.ensures.code in
+    let e = c.id.ensures in
     omega arith
 
-pub overflow_add-result-2 : goal.overflow_add-result-2
-overflow_add-result-2 c =
-    let m = c.unit_of.ensures.most in
-    let p = c.ranges.place.fits in
-    let q = Rattle.std.proofs.lemmas.Nat.mul-le c.args.place c.unit_of.result 256 4294967296 (omega arith) m in
-    let s = id_small (path_of 4 c.self.inside.id) c.self.invariant.0 in
-    let e = c.self.invariant.1 in
-    omega arith
+pub of-requires-clause-code : goal.of-requires-clause-code
+of-requires-clause-code c = (made c.args.self.now c.id.result c.unit_of.result c.level-level.result c.args.place c.in_bytes.ensures.code (sym c.id.ensures) c.requires c.level-level.ensures.level c.unit_of.ensures.unit (let p = c.ranges.place.fits in omega arith)).code
 
-pub invariant_of-result : goal.invariant_of-result
-invariant_of-result c =
-    let id = c.self.inside.id in
-    let l : length (path_of 4 id) < 4 = subst (λ p. length p < 4) (sym c.self.view_is) c.requires in
-    let v : c.level-level.result ≡ length (path_of 4 id) = c.level-level.ensures.level ∙ ap length (sym c.self.view_is) in
-    let m = made (path_of 4 id) id c.unit_of.result c.level-level.result c.args.place c.self.invariant.0 c.self.invariant.1 l v c.unit_of.ensures.unit (let p = c.ranges.place.fits in omega arith) in
-    (m.code, m.back)
+pub of-requires-clause-back : goal.of-requires-clause-back
+of-requires-clause-back c = (made c.args.self.now c.id.result c.unit_of.result c.level-level.result c.args.place c.in_bytes.ensures.code (sym c.id.ensures) c.requires c.level-level.ensures.level c.unit_of.ensures.unit (let p = c.ranges.place.fits in omega arith)).back
 
 pub returns : goal.returns
-returns c =
-    let id = c.self.inside.id in
-    let l : length (path_of 4 id) < 4 = subst (λ p. length p < 4) (sym c.self.view_is) c.requires in
-    let v : c.level-level.result ≡ length (path_of 4 id) = c.level-level.ensures.level ∙ ap length (sym c.self.view_is) in
-    let m = made (path_of 4 id) id c.unit_of.result c.level-level.result c.args.place c.self.invariant.0 c.self.invariant.1 l v c.unit_of.ensures.unit (let p = c.ranges.place.fits in omega arith) in
-    subst (λ p. path_of 4 (id + c.args.place * c.unit_of.result + 1) ≡ p ++ c.args.place ∷ []) c.self.view_is m.path
+returns c = c.of.ensures ∙ (made c.args.self.now c.id.result c.unit_of.result c.level-level.result c.args.place c.in_bytes.ensures.code (sym c.id.ensures) c.requires c.level-level.ensures.level c.unit_of.ensures.unit (let p = c.ranges.place.fits in omega arith)).path

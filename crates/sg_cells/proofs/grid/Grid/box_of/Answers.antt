@@ -1,22 +1,9 @@
-use Rattle.std.proofs.Common.{◌≡◌, ◌∙◌, ap, sym, subst, arith, true, false, Bool}
-use mathlib.Core.Bool.{◌&&◌}
-use lib.Signed.{lt_z}
-use Rattle.sg_shape.specs.declared.cells.CellBox.{CellBox}
+use Rattle.std.proofs.Common.{◌∙◌, sym, subst, arith, true, false}
 use Rattle.sg_shape.specs.Boxes.{IsCellBox}
 use Rattle.sg_cells.specs.Cells.{Block}
 use Rattle.sg_cells.proofs.Split.{Sits}
-use Rattle.sg_cells.proofs.Lattices.{fourth_power}
-use Rattle.sg_cells.proofs.Covered.{found_ok, found_none, lies, lies_box, none_of}
+use Rattle.sg_cells.proofs.Covered.{area, found_ok, found_none, lies, lies_box, none_of}
 use Rattle.sg_cells.proofs.grid.Grid.box_of.Goals as goal
-
-pub box_at-found-requires-clause-most : goal.box_at-found-requires-clause-most
-box_at-found-requires-clause-most c =
-    let p = fourth_power c.level-level.result c.level-level.ensures.most in
-    let m = c.block_at.ensures.most in
-    omega arith
-
-area : (b : CellBox) (b' : CellBox) (r s : Bool) → b ≡ b' → r ≡ (lt_z b.xlow b.xhigh && lt_z b.ylow b.yhigh) → r ≡ s → (lt_z b'.xlow b'.xhigh && lt_z b'.ylow b'.yhigh) ≡ s
-area b b' r s e f g = sym (ap (λ (b : CellBox). lt_z b.xlow b.xhigh && lt_z b.ylow b.yhigh) e) ∙ (sym f ∙ g)
 
 pub returns-then-has_area : goal.returns-then-has_area
 returns-then-has_area c =
