@@ -46,3 +46,4 @@ pub mod Unsure
 pub mod Reached
 pub mod Prepared
 pub mod Refines
+pub mod SerialJournals

@@ -12,6 +12,7 @@ pub mod Strangers
 pub mod Acting
 pub mod Preparing
 pub mod Wishes
+pub mod Journals
 pub mod Outside
 pub mod Stepping
 pub mod Reaching

@@ -5,6 +5,7 @@ ghost use Rattle.sg_trace.specs.Legal.{IsStage};
 ghost use Rattle.sg_trace.specs.Replies.{SerialIn};
 ghost use Rattle.sg_trace.specs.Traces.{Begin, Ask, Commit, Rollback};
 ghost use Rattle.sg_engine.specs.declared.steps.Step.TheVariants as step;
+ghost use Rattle.sg_engine.specs.Journals.{IsSerialJournal, IsLegalRun};
 ghost use Rattle.sg_engine.specs.Nexts.{WaitsForNone};
 ghost use Rattle.sg_engine.specs.Stepping.{HasStepped, IsStanding, Repeats, IsLeftToRefine, GivesJob};
 ghost use Rattle.sg_engine.specs.Ends.{MayRollBack, EndsJob, entry_in};
@@ -174,6 +175,24 @@ impl<J: Judge + Copy + Send + Sync, C: CellJudge + Copy + Send + Sync> Engine<J,
         ensures { result.now.items ≡ self.now.journal }
     {
         &self.shared.journal
+    }
+
+    /// That the journal's transactions are sound and, executed one after another on plain rows, give their answers, for
+    /// a proof that rests on it. It does nothing.
+    #[inline(always)]
+    pub fn serial_journal(&self)
+        ensures { IsSerialJournal self.now }
+    {
+        self.shared.serial_journal();
+    }
+
+    /// That some legal trace, in which no cycle of waits stands, leaves what the engine shows, for a proof that rests on
+    /// it. It does nothing.
+    #[inline(always)]
+    pub fn legal_run(&self)
+        ensures { IsLegalRun self.now }
+    {
+        self.shared.legal_run();
     }
 
     /// The labels of all calls, in order.

@@ -3,6 +3,7 @@ ghost use Rattle.sg_plain.specs.Sat.{IsSoundStatement};
 ghost use Rattle.sg_rows.specs.Table.{committed_rows};
 ghost use Rattle.sg_trace.specs.Replies.{SerialIn};
 ghost use Rattle.sg_trace.specs.Traces.{Begin, Ask};
+ghost use Rattle.sg_engine.specs.Journals.{IsSerialJournal, IsLegalRun};
 ghost use Rattle.sg_engine.specs.Shown.{seat_in, IsIdle, IsBetween, HasNoneOpen, Appends, next_statement, length_in, is_live_in, is_open_in, open_of, AreAnswers};
 ghost use Rattle.sg_engine.specs.Inside.{seat_of, started, SeatChanges, IsSame, IsOpened};
 
@@ -184,6 +185,22 @@ impl Shared {
     {
         self.rows.in_order();
         &self.rows
+    }
+
+    /// That the journal's transactions are sound and serial, for a proof that rests on it. It does nothing.
+    #[inline(always)]
+    pub(crate) fn serial_journal(&self)
+        ensures { IsSerialJournal self.now }
+    {
+        let _journal = &self.journal;
+    }
+
+    /// That some legal run led here, for a proof that rests on it. It does nothing.
+    #[inline(always)]
+    pub(crate) fn legal_run(&self)
+        ensures { IsLegalRun self.now }
+    {
+        let _trace = &self.trace;
     }
 }
 

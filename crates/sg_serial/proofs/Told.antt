@@ -11,7 +11,7 @@ use Rattle.sg_trace.specs.declared.labels.Cause.TheVariants.{Asked, NoMemory}
 use Rattle.sg_trace.specs.Traces.{Local, State, Stage, Event, Begin, Ask, Take, Put, Wait, Victim, Answered, Commit, Rollback, DoneList, session_of, state, after, answered, idle, all_sessions}
 use Rattle.sg_trace.specs.Legal.{IsLegal, Fits, statements_of}
 use Rattle.sg_trace.specs.Scripts.{Script, IsDue, Follows, transactions_of, statements_in, end_in, current}
-use Rattle.sg_serial.specs.Told.{on_last, with_event, plans, script_of}
+use Rattle.sg_serial.specs.Told.{on_last, with_statement, rolled_back, with_event, begun_by, script_of}
 use Rattle.sg_laws.proofs.Numbers.{session_listed}
 use Rattle.sg_serial.proofs.Places.{get_behind}
 
@@ -55,7 +55,7 @@ record Last (ts : List TransactionPlan) (x : Local) : Type 0 where
   plan : TransactionPlan
   whole : ts ≡ front ++ plan ∷ []
   statements : plan.statements ≡ statements_of x.done ++ opened x.open_one
-  end : plan.end ≡ finish.Rollback
+  end : plan.end ≡ finish.Commit
 
 record Told (ts : List TransactionPlan) (x : Local) : Type 0 where
   count : length ts ≡ x.begun
@@ -78,13 +78,13 @@ told_same ts x y eb el eo ed h = record {
 
 step_told : (w : Stage) (e : Event) (es : List Event) → IsLegal w (e ∷ es) → (ts : List TransactionPlan) → Told ts ((state w es).of (session_of e)) → Told (with_event e ts) (after e ((state w es).of (session_of e)))
 step_told w (Begin u n) es l ts h = record {
-  count = length_last ts (record { statements = []; end = finish.Rollback }) ∙ ap suc h.count;
-  last = λ _. record { front = ts; plan = record { statements = []; end = finish.Rollback }; whole = refl; statements = refl; end = refl };
+  count = length_last ts (record { statements = []; end = finish.Commit }) ∙ ap suc h.count;
+  last = λ _. record { front = ts; plan = record { statements = []; end = finish.Commit }; whole = refl; statements = refl; end = refl };
 }
 step_told w (Ask u n st) es l ts h =
     let x = (state w es).of u in
     let p = h.last l.1.0.live in
-    let f : TransactionPlan → TransactionPlan = λ t. record { statements = t.statements ++ st ∷ []; end = t.end } in
+    let f : TransactionPlan → TransactionPlan = with_statement st in
     let q : on_last f ts ≡ p.front ++ f p.plan ∷ [] = ap (on_last f) p.whole ∙ last_changed f p.front p.plan in
     record {
       count = ap length q ∙ (length_last p.front (f p.plan) ∙ (sym (length_last p.front p.plan) ∙ (sym (ap length p.whole) ∙ h.count)));
@@ -100,7 +100,8 @@ step_told w (Take u k m) es l ts h = told_same ts ((state w es).of u) (after (Ta
 step_told w (Put u k m) es l ts h = told_same ts ((state w es).of u) (after (Put u k m) ((state w es).of u)) refl refl refl refl h
 step_told w (Wait u k m b) es l ts h = h
 step_told w (Victim u c) es l ts h = told_idle ts ((state w es).of u).begun h.count
-step_told w (Rollback u c) es l ts h = told_idle ts ((state w es).of u).begun h.count
+step_told w (Commit u n) es l ts h = told_idle ts ((state w es).of u).begun h.count
+step_told w (Rollback u NoMemory) es l ts h = told_idle ts ((state w es).of u).begun h.count
 step_told w (Answered u a) es l ts h =
     let x = (state w es).of u in
     let st = l.1.0 in
@@ -114,19 +115,19 @@ step_told w (Answered u a) es l ts h =
         end = p.end;
       };
     })
-step_told w (Commit u n) es l ts h =
-    let p = h.last l.1.0.live in
-    let f : TransactionPlan → TransactionPlan = λ t. record { statements = t.statements; end = finish.Commit } in
+step_told w (Rollback u Asked) es l ts h =
+    let p = h.last l.1.live in
+    let f : TransactionPlan → TransactionPlan = rolled_back in
     let q : on_last f ts ≡ p.front ++ f p.plan ∷ [] = ap (on_last f) p.whole ∙ last_changed f p.front p.plan in
     told_idle (on_last f ts) ((state w es).of u).begun (ap length q ∙ (length_last p.front (f p.plan) ∙ (sym (length_last p.front p.plan) ∙ (sym (ap length p.whole) ∙ h.count))))
 
-told : (w : Stage) (es : List Event) → IsLegal w es → (s : ℕ) → Told (plans es s) ((state w es).of s)
+told : (w : Stage) (es : List Event) → IsLegal w es → (s : ℕ) → Told (begun_by es s) ((state w es).of s)
 told w [] l s = told_idle [] 0 refl
 told w (e ∷ es) l s = go (eqb (session_of e) s) refl (told w es l.0 s) (told w es l.0 (session_of e))
   where
-    go : (b : Bool) → eqb (session_of e) s ≡ b → Told (plans es s) ((state w es).of s) → Told (plans es (session_of e)) ((state w es).of (session_of e))
-        → Told (cond b (with_event e (plans es s)) (plans es s)) (cond b (after e ((state w es).of (session_of e))) ((state w es).of s))
-    go true q h own = subst (λ v. Told (with_event e (plans es v)) (after e ((state w es).of (session_of e)))) (eqb-true (session_of e) s q) (step_told w e es l (plans es (session_of e)) own)
+    go : (b : Bool) → eqb (session_of e) s ≡ b → Told (begun_by es s) ((state w es).of s) → Told (begun_by es (session_of e)) ((state w es).of (session_of e))
+        → Told (cond b (with_event e (begun_by es s)) (begun_by es s)) (cond b (after e ((state w es).of (session_of e))) ((state w es).of s))
+    go true q h own = subst (λ v. Told (with_event e (begun_by es v)) (after e ((state w es).of (session_of e)))) (eqb-true (session_of e) s q) (step_told w e es l (begun_by es (session_of e)) own)
     go false q h own = h
 
 -- a session that is live has a number
@@ -171,7 +172,7 @@ back_on us ts x y eb el h i t e = let c = h i t e in (c.0, c.1, elim c.2 [ inl q
 back : (w : Stage) (e : Event) (es : List Event) → IsLegal w (e ∷ es) → (us ts : List TransactionPlan) → Told ts ((state w es).of (session_of e)) → Completes us (with_event e ts) (after e ((state w es).of (session_of e))) → Completes us ts ((state w es).of (session_of e))
 back w (Begin u n) es l us ts h c = λ i t e.
     let x = (state w es).of u in
-    let d = c i t (get_front ts (record { statements = []; end = finish.Rollback } ∷ []) i t e) in
+    let d = c i t (get_front ts (record { statements = []; end = finish.Commit } ∷ []) i t e) in
     let b = get_below ts i t e in
     let k = h.count in
     (d.0, d.1, elim d.2 [ inl q ↦ inl q | inr r ↦ absurd (let q = r.1 in below i x.begun (omega arith) (omega arith)) ])
@@ -181,7 +182,7 @@ back w (Begin u n) es l us ts h c = λ i t e.
 back w (Ask u n st) es l us ts h c = λ i t e.
     let x = (state w es).of u in
     let p = h.last l.1.0.live in
-    let f : TransactionPlan → TransactionPlan = λ t. record { statements = t.statements ++ st ∷ []; end = t.end } in
+    let f : TransactionPlan → TransactionPlan = with_statement st in
     let q : on_last f ts ≡ p.front ++ f p.plan ∷ [] = ap (on_last f) p.whole ∙ last_changed f p.front p.plan in
     let len : suc (length p.front) ≡ x.begun = sym (length_last p.front p.plan) ∙ (sym (ap length p.whole) ∙ h.count) in
     elim (get_cases p.front p.plan i t (ap (λ xs. slice_get xs i) (sym p.whole) ∙ e)) [
@@ -201,14 +202,15 @@ back w (Take u k m) es l us ts h c = back_on us ts ((state w es).of u) (after (T
 back w (Put u k m) es l us ts h c = back_on us ts ((state w es).of u) (after (Put u k m) ((state w es).of u)) refl refl c
 back w (Wait u k m b) es l us ts h c = c
 back w (Victim u d) es l us ts h c = λ i t e. let r = c i t e in (r.0, r.1, inl (ended_same (idle ((state w es).of u).begun) i t r.0 refl r.2))
-back w (Rollback u d) es l us ts h c = λ i t e. let r = c i t e in (r.0, r.1, inl (ended_same (idle ((state w es).of u).begun) i t r.0 refl r.2))
+back w (Commit u n) es l us ts h c = λ i t e. let r = c i t e in (r.0, r.1, inl (ended_same (idle ((state w es).of u).begun) i t r.0 refl r.2))
+back w (Rollback u NoMemory) es l us ts h c = λ i t e. let r = c i t e in (r.0, r.1, inl (ended_same (idle ((state w es).of u).begun) i t r.0 refl r.2))
 back w (Answered u a) es l us ts h c =
     let x = (state w es).of u in
     back_on us ts x (answered x x.open_one a) (ap (λ o. (answered x o a).begun) l.1.1.open_one) (ap (λ o. (answered x o a).live) l.1.1.open_one) c
-back w (Commit u n) es l us ts h c = λ i t e.
+back w (Rollback u Asked) es l us ts h c = λ i t e.
     let x = (state w es).of u in
-    let p = h.last l.1.0.live in
-    let f : TransactionPlan → TransactionPlan = λ t. record { statements = t.statements; end = finish.Commit } in
+    let p = h.last l.1.live in
+    let f : TransactionPlan → TransactionPlan = rolled_back in
     let q : on_last f ts ≡ p.front ++ f p.plan ∷ [] = ap (on_last f) p.whole ∙ last_changed f p.front p.plan in
     let len : suc (length p.front) ≡ x.begun = sym (length_last p.front p.plan) ∙ (sym (ap length p.whole) ∙ h.count) in
     elim (get_cases p.front p.plan i t (ap (λ xs. slice_get xs i) (sym p.whole) ∙ e)) [
@@ -216,7 +218,7 @@ back w (Commit u n) es l us ts h c = λ i t e.
       | inr g ↦
           let d = c i (f p.plan) (ap (λ xs. slice_get xs i) q ∙ (ap (slice_get (p.front ++ f p.plan ∷ [])) g.0 ∙ get_behind p.front (f p.plan ∷ []))) in
           let s = ended_same (idle x.begun) i (f p.plan) d.0 refl d.2 in
-          (d.0, d.1, inr (l.1.0.live, ap suc g.0 ∙ len, ([], ap (λ (v : TransactionPlan). v.statements) s ∙ (ap (λ (v : TransactionPlan). v.statements) g.1 ∙ sym (append-nil t.statements)))))
+          (d.0, d.1, inr (l.1.live, ap suc g.0 ∙ len, ([], ap (λ (v : TransactionPlan). v.statements) s ∙ (ap (λ (v : TransactionPlan). v.statements) g.1 ∙ sym (append-nil t.statements)))))
     ]
 
 -- ---- what is due
@@ -235,16 +237,16 @@ module _ (q : Script) (w : Stage) (es : List Event) where
   due_of : (u : ℕ) (front : List TransactionPlan) (t' : TransactionPlan) → slice_get (transactions_of q u) (length front) ≡ Some t' → suc (length front) ≡ ((state w es).of u).begun → current q ((state w es).of u) u ≡ Some t'
   due_of u front t' e b = ap (λ n. slice_get (transactions_of q u) (pred n)) (sym b) ∙ e
 
-  due : (e : Event) → IsLegal w (e ∷ es) → Told (plans es (session_of e)) ((state w es).of (session_of e)) → Completes (transactions_of q (session_of e)) (with_event e (plans es (session_of e))) (after e ((state w es).of (session_of e))) → IsDue q (state w es) e
+  due : (e : Event) → IsLegal w (e ∷ es) → Told (begun_by es (session_of e)) ((state w es).of (session_of e)) → Completes (transactions_of q (session_of e)) (with_event e (begun_by es (session_of e))) (after e ((state w es).of (session_of e))) → IsDue q (state w es) e
   due (Begin u n) l h c =
-      let ts = plans es u in
-      let d = c (length ts) (record { statements = []; end = finish.Rollback }) (get_behind ts (record { statements = []; end = finish.Rollback } ∷ [])) in
+      let ts = begun_by es u in
+      let d = c (length ts) (record { statements = []; end = finish.Commit }) (get_behind ts (record { statements = []; end = finish.Commit } ∷ [])) in
       (d.0, ap (slice_get (transactions_of q u)) (sym h.count) ∙ d.1)
   due (Ask u n st) l h c =
       let x = (state w es).of u in
-      let ts = plans es u in
+      let ts = begun_by es u in
       let p = h.last l.1.0.live in
-      let f : TransactionPlan → TransactionPlan = λ t. record { statements = t.statements ++ st ∷ []; end = t.end } in
+      let f : TransactionPlan → TransactionPlan = with_statement st in
       let k : on_last f ts ≡ p.front ++ f p.plan ∷ [] = ap (on_last f) p.whole ∙ last_changed f p.front p.plan in
       let len : suc (length p.front) ≡ x.begun = sym (length_last p.front p.plan) ∙ (sym (ap length p.whole) ∙ h.count) in
       let d = c (length p.front) (f p.plan) (ap (λ xs. slice_get xs (length p.front)) k ∙ get_behind p.front (f p.plan ∷ [])) in
@@ -254,25 +256,25 @@ module _ (q : Script) (w : Stage) (es : List Event) where
       ap (λ o. slice_get (statements_in o) (length x.done)) (due_of u p.front d.0 d.1 len) ∙ (ap (λ ss. slice_get ss (length x.done)) all ∙ get_done x.done (st ∷ r.0))
   due (Commit u n) l h c =
       let x = (state w es).of u in
-      let ts = plans es u in
       let p = h.last l.1.0.live in
-      let f : TransactionPlan → TransactionPlan = λ t. record { statements = t.statements; end = finish.Commit } in
+      let len : suc (length p.front) ≡ x.begun = sym (length_last p.front p.plan) ∙ (sym (ap length p.whole) ∙ h.count) in
+      let d = c (length p.front) p.plan (ap (λ xs. slice_get xs (length p.front)) p.whole ∙ get_behind p.front (p.plan ∷ [])) in
+      let s = ended_same (idle x.begun) (length p.front) p.plan d.0 refl d.2 in
+      let cur = due_of u p.front d.0 d.1 len in
+      let told_so : d.0.statements ≡ statements_of x.done ++ [] = ap (λ (v : TransactionPlan). v.statements) s ∙ (p.statements ∙ ap (λ o. statements_of x.done ++ opened o) l.1.0.none_open) in
+      (ap (λ o. slice_get (statements_in o) (length x.done)) cur ∙ (ap (λ ss. slice_get ss (length x.done)) told_so ∙ get_done x.done []), ap end_in cur ∙ (ap (λ (v : TransactionPlan). v.end) s ∙ p.end))
+  due (Rollback u Asked) l h c =
+      let x = (state w es).of u in
+      let ts = begun_by es u in
+      let p = h.last l.1.live in
+      let f : TransactionPlan → TransactionPlan = rolled_back in
       let k : on_last f ts ≡ p.front ++ f p.plan ∷ [] = ap (on_last f) p.whole ∙ last_changed f p.front p.plan in
       let len : suc (length p.front) ≡ x.begun = sym (length_last p.front p.plan) ∙ (sym (ap length p.whole) ∙ h.count) in
       let d = c (length p.front) (f p.plan) (ap (λ xs. slice_get xs (length p.front)) k ∙ get_behind p.front (f p.plan ∷ [])) in
       let s = ended_same (idle x.begun) (length p.front) (f p.plan) d.0 refl d.2 in
       let cur = due_of u p.front d.0 d.1 len in
-      let told_so : d.0.statements ≡ statements_of x.done ++ [] = ap (λ (v : TransactionPlan). v.statements) s ∙ (p.statements ∙ ap (λ o. statements_of x.done ++ opened o) l.1.0.none_open) in
-      (ap (λ o. slice_get (statements_in o) (length x.done)) cur ∙ (ap (λ ss. slice_get ss (length x.done)) told_so ∙ get_done x.done []), ap end_in cur ∙ ap (λ (v : TransactionPlan). v.end) s)
-  due (Rollback u Asked) l h c =
-      let x = (state w es).of u in
-      let p = h.last l.1.live in
-      let len : suc (length p.front) ≡ x.begun = sym (length_last p.front p.plan) ∙ (sym (ap length p.whole) ∙ h.count) in
-      let d = c (length p.front) p.plan (ap (λ xs. slice_get xs (length p.front)) p.whole ∙ get_behind p.front (p.plan ∷ [])) in
-      let s = ended_same (idle x.begun) (length p.front) p.plan d.0 refl d.2 in
-      let cur = due_of u p.front d.0 d.1 len in
       let told_so : d.0.statements ≡ statements_of x.done ++ [] = ap (λ (v : TransactionPlan). v.statements) s ∙ (p.statements ∙ ap (λ o. statements_of x.done ++ opened o) l.1.none_open) in
-      (ap (λ o. slice_get (statements_in o) (length x.done)) cur ∙ (ap (λ ss. slice_get ss (length x.done)) told_so ∙ get_done x.done []), ap end_in cur ∙ (ap (λ (v : TransactionPlan). v.end) s ∙ p.end))
+      (ap (λ o. slice_get (statements_in o) (length x.done)) cur ∙ (ap (λ ss. slice_get ss (length x.done)) told_so ∙ get_done x.done []), ap end_in cur ∙ ap (λ (v : TransactionPlan). v.end) s)
   due (Rollback u NoMemory) l h c = tt
   due (Take u k m) l h c = tt
   due (Put u k m) l h c = tt
@@ -282,27 +284,27 @@ module _ (q : Script) (w : Stage) (es : List Event) where
 
 -- ---- the trace follows each script that completes what it told
 -- completed before an event, if it is so after it
-earlier : (w : Stage) (e : Event) (es : List Event) → IsLegal w (e ∷ es) → (us : List TransactionPlan) (s : ℕ) → Completes us (plans (e ∷ es) s) ((state w (e ∷ es)).of s) → Completes us (plans es s) ((state w es).of s)
+earlier : (w : Stage) (e : Event) (es : List Event) → IsLegal w (e ∷ es) → (us : List TransactionPlan) (s : ℕ) → Completes us (begun_by (e ∷ es) s) ((state w (e ∷ es)).of s) → Completes us (begun_by es s) ((state w es).of s)
 earlier w e es l us s c = go (eqb (session_of e) s) refl c
   where
     z : State
     z = state w es
 
-    go : (b : Bool) → eqb (session_of e) s ≡ b → Completes us (cond b (with_event e (plans es s)) (plans es s)) (cond b (after e (z.of (session_of e))) (z.of s)) → Completes us (plans es s) (z.of s)
+    go : (b : Bool) → eqb (session_of e) s ≡ b → Completes us (cond b (with_event e (begun_by es s)) (begun_by es s)) (cond b (after e (z.of (session_of e))) (z.of s)) → Completes us (begun_by es s) (z.of s)
     go true q c =
         let same = eqb-true (session_of e) s q in
-        let c' : Completes us (with_event e (plans es (session_of e))) (after e (z.of (session_of e))) = subst (λ v. Completes us (with_event e (plans es v)) (after e (z.of (session_of e)))) (sym same) c in
-        subst (λ v. Completes us (plans es v) (z.of v)) same (back w e es l us (plans es (session_of e)) (told w es l.0 (session_of e)) c')
+        let c' : Completes us (with_event e (begun_by es (session_of e))) (after e (z.of (session_of e))) = subst (λ v. Completes us (with_event e (begun_by es v)) (after e (z.of (session_of e)))) (sym same) c in
+        subst (λ v. Completes us (begun_by es v) (z.of v)) same (back w e es l us (begun_by es (session_of e)) (told w es l.0 (session_of e)) c')
     go false q c = c
 
-pub follows_all : (q : Script) (w : Stage) (es : List Event) → IsLegal w es → ((s : ℕ) → IsSession s → Completes (transactions_of q s) (plans es s) ((state w es).of s)) → Follows q w es
+pub follows_all : (q : Script) (w : Stage) (es : List Event) → IsLegal w es → ((s : ℕ) → IsSession s → Completes (transactions_of q s) (begun_by es s) ((state w es).of s)) → Follows q w es
 follows_all q w [] l c = tt
 follows_all q w (e ∷ es) l c = (follows_all q w es l.0 (λ s n. earlier w e es l (transactions_of q s) s (c s n)), go e l c)
   where
-    own : (e : Event) (l : IsLegal w (e ∷ es)) → IsSession (session_of e) → ((s : ℕ) → IsSession s → Completes (transactions_of q s) (plans (e ∷ es) s) ((state w (e ∷ es)).of s)) → IsDue q (state w es) e
+    own : (e : Event) (l : IsLegal w (e ∷ es)) → IsSession (session_of e) → ((s : ℕ) → IsSession s → Completes (transactions_of q s) (begun_by (e ∷ es) s) ((state w (e ∷ es)).of s)) → IsDue q (state w es) e
     own e l n c = let i = eq-eqb (session_of e) (session_of e) refl in let d = c (session_of e) n in due q w es e l (told w es l.0 (session_of e)) (rw i at d)
 
-    go : (e : Event) (l : IsLegal w (e ∷ es)) → ((s : ℕ) → IsSession s → Completes (transactions_of q s) (plans (e ∷ es) s) ((state w (e ∷ es)).of s)) → IsDue q (state w es) e
+    go : (e : Event) (l : IsLegal w (e ∷ es)) → ((s : ℕ) → IsSession s → Completes (transactions_of q s) (begun_by (e ∷ es) s) ((state w (e ∷ es)).of s)) → IsDue q (state w es) e
     go (Begin u n) l c = own (Begin u n) l l.1.0 c
     go (Ask u n st) l c = own (Ask u n st) l (live_session w es l.0 u l.1.0.live) c
     go (Commit u n) l c = own (Commit u n) l (live_session w es l.0 u l.1.0.live) c
@@ -315,15 +317,15 @@ follows_all q w (e ∷ es) l c = (follows_all q w es l.0 (λ s n. earlier w e es
     go (Answered u a) l c = tt
 
 -- ---- and so its own
-own_plans : (es : List Event) (ss : List ℕ) (s : ℕ) → Has ss s → transactions_of (map (λ s. record { number = s; transactions = plans es s }) ss) s ≡ plans es s
-own_plans es [] s h = absurd h
-own_plans es (r ∷ rs) s h = go (eqb r s) refl h (own_plans es rs s)
+own_begun_by : (es : List Event) (ss : List ℕ) (s : ℕ) → Has ss s → transactions_of (map (λ s. record { number = s; transactions = begun_by es s }) ss) s ≡ begun_by es s
+own_begun_by es [] s h = absurd h
+own_begun_by es (r ∷ rs) s h = go (eqb r s) refl h (own_begun_by es rs s)
   where
-    go : (b : Bool) → eqb r s ≡ b → Has (r ∷ rs) s → (Has rs s → transactions_of (map (λ s. record { number = s; transactions = plans es s }) rs) s ≡ plans es s)
-        → cond b (plans es r) (transactions_of (map (λ s. record { number = s; transactions = plans es s }) rs) s) ≡ plans es s
-    go true q h ih = ap (plans es) (eqb-true r s q)
+    go : (b : Bool) → eqb r s ≡ b → Has (r ∷ rs) s → (Has rs s → transactions_of (map (λ s. record { number = s; transactions = begun_by es s }) rs) s ≡ begun_by es s)
+        → cond b (begun_by es r) (transactions_of (map (λ s. record { number = s; transactions = begun_by es s }) rs) s) ≡ begun_by es s
+    go true q h ih = ap (begun_by es) (eqb-true r s q)
     go false q (inl e) ih = absurd (eqb-false r s q e)
     go false q (inr m) ih = ih m
 
 pub tells : (w : Stage) (es : List Event) → IsLegal w es → Follows (script_of es) w es
-tells w es l = follows_all (script_of es) w es l (λ s n i t e. (t, ap (λ ts. slice_get ts i) (own_plans es all_sessions s (session_listed s n)) ∙ e, inl refl))
+tells w es l = follows_all (script_of es) w es l (λ s n i t e. (t, ap (λ ts. slice_get ts i) (own_begun_by es all_sessions s (session_listed s n)) ∙ e, inl refl))

@@ -8,3 +8,4 @@ pub mod Labels
 pub mod Costs
 pub mod Outcomes
 pub mod Victims
+pub mod OnCycles

@@ -1,9 +1,15 @@
 -- The laws of ends, of waits and of turns.
-use Rattle.std.specs.Prelude.{◌||◌, is_some, slice_get, length, map, filter, ◌≡◌, ℕ, true, false, List, [], ◌∷◌, ◌++◌}
+use Rattle.std.specs.Prelude.{◌||◌, is_some, slice_get, length, map, filter, ◌≡◌, ℕ, suc, true, false, List, [], ◌∷◌, ◌++◌}
 use Rattle.sg_cells.specs.declared.keys.Key.{Key}
 use Rattle.sg_modes.specs.declared.modes.Mode.{Mode}
 use Rattle.sg_modes.specs.Sessions.{IsSession, AreSessions, has_session}
-use Rattle.sg_modes.specs.Waits.{NoCycle}
+use Rattle.sg_modes.specs.Waits.{Chain, NoCycle}
+use Rattle.sg_plain.specs.declared.statements.Statement.{Statement}
+use Rattle.sg_plain.specs.declared.statements.Answer.{Answer}
+use Rattle.sg_cells.specs.declared.settings.Settings.{Settings}
+use Rattle.sg_plain.specs.Rows.{Rows, AreRows}
+use Rattle.sg_plain.specs.Sat.{IsSoundStatement}
+use Rattle.sg_trace.specs.Replies.{Reply}
 use Rattle.sg_trace.specs.declared.labels.Cause.{Cause}
 use Rattle.sg_trace.specs.Keys.{rising_keys, is_write}
 use Rattle.sg_trace.specs.Traces.{Stage, Event, Victim, Rollback, state, labels_of}
@@ -37,6 +43,14 @@ AloneIsFree = (w : Stage) (es : List Event) → IsStage w → IsLegal w es → I
 abbrev pub VictimsWait : Type 0
 VictimsWait = (w : Stage) (v : ℕ) (c : List ℕ) (es : List Event) → IsLegal w (Victim v c ∷ es) → IsLive w es v × ((y : ℕ) × (has_session (waits es v) y ≡ true))
 
+-- each session of the set waits, by a chain of standing waits, for itself
+abbrev pub AreOnCycles : List Event → List ℕ → Type 0
+AreOnCycles es set = (u : ℕ) → has_session set u ≡ true → (n : ℕ) × Chain (waits es) (suc n) u u
+
+-- a victim is of its cycle, whose sessions all wait for themselves
+abbrev pub VictimsStandOnCycles : Type 0
+VictimsStandOnCycles = (w : Stage) (v : ℕ) (c : List ℕ) (es : List Event) → IsLegal w (Victim v c ∷ es) → (has_session c v ≡ true) × AreOnCycles es c
+
 -- the cost of a session is the number of the keys that it holds to be written
 abbrev pub CostsAreKeys : Type 0
 CostsAreKeys =
@@ -51,6 +65,10 @@ abbrev pub ConflictsAreSets : Type 0
 ConflictsAreSets = (w : Stage) (es : List Event) → IsStage w → IsLegal w es → (s : ℕ) (k : Key) (m : Mode) → IsConflict w es s k m
 
 -- ---- turns
+-- each sound statement has an answer
+abbrev pub RepliesExist : Type 0
+RepliesExist = (c : Settings) (rows : Rows) (st : Statement) → AreRows rows → IsSoundStatement st → (answer : Answer) × Reply c rows st answer
+
 -- a session that can turn has one event to append
 abbrev pub TurnsFit : Type 0
 TurnsFit = (ps : Script) (w : Stage) (es : List Event) → IsStage w → IsSoundScript ps → IsLegal w es → (s : ℕ) → IsSession s → can_turn ps w es s ≡ true → (e : Event) × IsTurn ps w es s e

@@ -2,6 +2,7 @@ use Rattle.std.proofs.Common.{List, refl}
 use Rattle.sg_trace.specs.Traces.{Stage, Event}
 use Rattle.sg_trace.specs.Scripts.{Script}
 use Rattle.sg_turns.specs.Claims.{IsLasting}
+use Rattle.sg_turns.proofs.Answers.{reply}
 use Rattle.sg_turns.proofs.Unique.{Run, determined}
 use Rattle.sg_turns.proofs.Progress.{turn_fits, turns_are_one, someone_can}
 use Rattle.sg_turns.proofs.Labels.{events_same}
@@ -13,6 +14,7 @@ run p w x l = record { legal = l.legal; follows = l.follows; lasts = l.lasts }
 
 pub returns : goal.returns
 returns c = record {
+  answers = λ d rows st r h. reply d rows r st h;
   fit = turn_fits;
   someone = someone_can;
   one = turns_are_one;
