@@ -1,0 +1,12 @@
+pub mod Telling
+pub mod Stepping
+pub mod Knowing
+pub mod Parts
+pub mod Under
+pub mod Seeing
+pub mod Advancing
+pub mod Cycling
+pub mod Stepped
+pub mod Calling
+pub mod Closing
+pub mod Seated

@@ -1,0 +1,9 @@
+pub mod Locks
+pub mod Events
+pub mod Executions
+pub mod Callers
+pub mod Ends
+pub mod Goings
+pub mod Theorem
+pub mod Refusals
+pub mod Seatings
