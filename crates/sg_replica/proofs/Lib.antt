@@ -1,0 +1,4 @@
+pub mod Looks
+pub mod Opening
+pub mod Taking
+pub mod Crosses
