@@ -1,33 +1,20 @@
 #!/usr/bin/env python3
-"""Compares the tests' texts, and the built program where it is given, with the files of examples/.
+"""Compares with the files of examples/ what repeats them: the tutorial and the program's stored run.
 
-    bench/examples.py [PROGRAM]
+    bench/examples.py
 
-Each script and each expected text must stand whole in a literal of a test of crates/spatial_cli, so that the gate
-plays just these bytes. The program's stored run must be the first example's, and docs/TUTORIAL.md must show each
-script that has labels, and its labels. With PROGRAM, the built spatial_cli, each script is played too, with its labels
-where an example has them, and prints the expected text. The status is 1 where anything differs, and each difference
-has a line.
+docs/TUTORIAL.md must show each script that has labels, and its labels, and the stored run of crates/spatial_cli must be
+the first example. What a script prints is compared by tests/play.py. Each difference has a line, and the last line is
+`N passed, M failed`; the status is 1 where something differs.
 """
 
-import ast
 import pathlib
-import re
-import subprocess
 import sys
 
 TOP = pathlib.Path(__file__).resolve().parent.parent
+EXAMPLES = TOP / "examples"
 CRATE = TOP / "crates" / "spatial_cli"
-LITERAL = re.compile(r'b"(?:[^"\\]|\\.)*"', re.DOTALL)
-
-
-def literals():
-    """The byte strings of the crate's tests."""
-    found = set()
-    for file in CRATE.glob("src/*tests.rt"):
-        for spelled in LITERAL.findall(file.read_text()):
-            found.add(ast.literal_eval(spelled.replace("\n", "\\n").replace("\\0", "\\x00")))
-    return found
+STORED = {"stdin": "first.script", "stdout": "first.expected"}
 
 
 def is_shown(file):
@@ -40,25 +27,13 @@ def is_shown(file):
 
 
 def main():
-    faults = []
-    tested = literals()
-    scripts = sorted((TOP / "examples").glob("*.script"))
-    for script in scripts:
-        texts = [(script.with_suffix(".expected"), [])]
-        labels = script.with_suffix(".labels")
-        if labels.exists():
-            texts.append((labels, ["--labels"]))
-            faults += [f"{file.name} isn't in the tutorial" for file in (script, labels) if not is_shown(file)]
-        files = [script, script.with_suffix(".expected")]
-        faults += [f"{file.name} stands in no test" for file in files if file.read_bytes() not in tested]
-        for text, words in texts if len(sys.argv) > 1 else []:
-            done = subprocess.run([sys.argv[1], "replay"] + words, input=script.read_bytes(), capture_output=True)
-            if (done.returncode, done.stdout, done.stderr) != (0, text.read_bytes(), b""):
-                faults.append(f"{script.name} prints another text than {text.name}")
-    for stored, example in (("stdin", "first.script"), ("stdout", "first.expected")):
-        if (CRATE / stored).read_bytes() != (TOP / "examples" / example).read_bytes():
+    told = [file for labels in EXAMPLES.glob("*.labels") for file in (labels.with_suffix(".script"), labels)]
+    faults = [f"{file.name} isn't in the tutorial" for file in sorted(told) if not is_shown(file)]
+    for stored, example in STORED.items():
+        if (CRATE / stored).read_bytes() != (EXAMPLES / example).read_bytes():
             faults.append(f"the stored {stored} isn't {example}")
-    print("\n".join(faults) if faults else f"{len(scripts)} examples are as their files say")
+    passed = len(told) + len(STORED) - len(faults)
+    print("\n".join([*faults, f"{passed} passed, {len(faults)} failed"]))
     return 1 if faults else 0
 
 

@@ -1,17 +1,17 @@
 #!/usr/bin/env python3
-"""Counts the fronts of scripts that are scripts themselves, by a reader of its own.
+"""Tells which fronts of a script are scripts themselves, by a reader of its own.
 
-    bench/fronts.py [SCRIPT ..]
+    bench/fronts.py SCRIPT
 
-Each script is cut behind each of its bytes, and before the first. The reader knows the lines of the examples that tests
-cut so: first, phantom and deadlock, which are read where none is named. Tests of crates/spatial_cli hold the counts.
+The script is cut behind each of its bytes, and before the first. Printed are the lengths of the fronts that are scripts,
+from the first to the last of neighbours a line, which is what a file `cuts` of tests/README.md says: those of examples/
+are made so. The reader knows the lines of the examples that are cut: first, phantom and deadlock.
 """
 
 import pathlib
 import re
 import sys
 
-EXAMPLES = pathlib.Path(__file__).resolve().parent.parent / "examples"
 NUMBER = r"-?\d+"
 SPOT = rf"{NUMBER} {NUMBER}"
 SHAPE = rf"(POINT \({SPOT}\)|POLYGON \(\(({SPOT}, )+{SPOT}\)\))"
@@ -53,10 +53,24 @@ def is_script(text):
     return not is_open
 
 
+def ranges(lengths):
+    """The first and the last of each run of neighbours among rising numbers."""
+    found = []
+    for length in lengths:
+        if found and found[-1][1] == length - 1:
+            found[-1][1] = length
+        else:
+            found.append([length, length])
+    return found
+
+
 def main():
-    for name in sys.argv[1:] or [EXAMPLES / f"{name}.script" for name in ("first", "phantom", "deadlock")]:
-        text = pathlib.Path(name).read_text(encoding="ascii")
-        print(f"{name}: {sum(is_script(text[:end]) for end in range(len(text) + 1))} of {len(text) + 1} fronts")
+    if len(sys.argv) != 2:
+        print(__doc__, file=sys.stderr)
+        return 2
+    text = pathlib.Path(sys.argv[1]).read_text(encoding="ascii")
+    for first, last in ranges(end for end in range(len(text) + 1) if is_script(text[:end])):
+        print(first, last)
     return 0
 
 

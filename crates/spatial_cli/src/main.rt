@@ -1,19 +1,14 @@
 //! The program: a script of transactions on a table of shapes, run by its sessions in turns or in threads of their own,
-//! and printed; or a script that is made from a number.
+//! and printed; or a script that is made from a number. What it prints of scripts is told by the cases of `tests/` at
+//! the top of the repository; the tests here call it over objects in memory.
 #![tactic(auto)]
 
 #[cfg(test)]
-mod alike_tests;
-#[cfg(test)]
-mod cut_tests;
-#[cfg(test)]
-mod example_tests;
+mod fault_tests;
 #[cfg(test)]
 mod index_tests;
 #[cfg(test)]
 mod label_tests;
-#[cfg(test)]
-mod lock_tests;
 #[cfg(test)]
 mod making_tests;
 #[cfg(test)]

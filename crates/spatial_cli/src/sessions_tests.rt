@@ -1,4 +1,5 @@
-use crate::tests::{add, sink, source};
+// Sessions in threads of their own.
+use crate::tests::{FIRST, prints_by, sink, source, words};
 use sg_command::Words;
 use sg_program::{Status, spatial_main};
 use sg_refine::{Gate, OpenGate};
@@ -30,29 +31,22 @@ impl Gate for Third {
     }
 }
 
-/// Two statements of one session.
-const ONE_SESSION: &[u8] =
-    b"session 1\nbegin\ninsert 1 POINT (3 4)\nselect intersects POINT (3 4)\ncommit\n";
-
-const ONE_TEXT: &[u8] =
+/// What is printed of the first script with its turns.
+const FIRST_TURNS: &[u8] =
     b"commit 1 session 1 transaction 1\n  inserted\n  keys 1\nrows 1\n  1 POINT (3 4)\nschedule 1 1 1 1 1 1 1 1 1\n";
 
-const ONE_LABELLED: &[u8] =
-    b"commit 1 session 1 transaction 1\n  inserted\n  keys 1\nrows 1\n  1 POINT (3 4)\nlabels 9\n  session 1 begin 1\n  session 1 ask 1\n  session 1 put row 1 X\n  session 1 answer inserted\n  session 1 ask 2\n  session 1 take row 1 RangeS-S\n  session 1 take row end RangeS-S\n  session 1 answer keys 1\n  session 1 commit 1\nschedule 1 1 1 1 1 1 1 1 1\n";
-
 /// Two sessions with two equal queries each, and one row that they refine.
-const REFINED_TWICE: &[u8] =
-    b"row 1 POINT (5 5)\nsession 1\nbegin\nselect intersects POINT (5 5)\nselect intersects POINT (5 5)\ncommit\nsession 2\nbegin\nselect intersects POINT (5 5)\nselect intersects POINT (5 5)\ncommit\n";
-
-/// The word `threads` and these.
-fn threads(alloc: Global, options: &[&[u8]]) -> Result<Words, Fail> {
-    let mut words = Words::new(alloc);
-    add(alloc, &mut words, b"threads")?;
-    for option in options {
-        add(alloc, &mut words, option)?;
-    }
-    Ok(words)
-}
+const REFINED_TWICE: &[u8] = b"row 1 POINT (5 5)\n\
+session 1\n\
+begin\n\
+select intersects POINT (5 5)\n\
+select intersects POINT (5 5)\n\
+commit\n\
+session 2\n\
+begin\n\
+select intersects POINT (5 5)\n\
+select intersects POINT (5 5)\n\
+commit\n";
 
 /// What is printed of the script by the words; the call ends well and says nothing.
 fn told<R: Abort + Threads + Wait + Sync, G: Gate + Sync>(
@@ -73,23 +67,13 @@ fn told<R: Abort + Threads + Wait + Sync, G: Gate + Sync>(
 
 #[test]
 fn threads_of_one_session(rt: HostRuntime) -> Result<(), Fail> {
-    let alloc = rt.alloc();
-    let words = threads(alloc, &[b"--trace"])?;
-    let text = told(&rt, alloc, &words, ONE_SESSION, &OpenGate)?;
-    assert!(rt; text.as_slice() == ONE_TEXT);
-    Ok(())
-}
-
-#[test]
-fn options_in_any_order(rt: HostRuntime) -> Result<(), Fail> {
-    let alloc = rt.alloc();
-    let words = threads(alloc, &[b"--trace", b"--workers", b"2", b"--labels"])?;
-    let text = told(&rt, alloc, &words, ONE_SESSION, &OpenGate)?;
-    assert!(rt; text.as_slice() == ONE_LABELLED);
-    let words = threads(alloc, &[b"--labels", b"--trace", b"--workers", b"64"])?;
-    let text = told(&rt, alloc, &words, ONE_SESSION, &OpenGate)?;
-    assert!(rt; text.as_slice() == ONE_LABELLED);
-    Ok(())
+    prints_by(
+        &rt,
+        rt.alloc(),
+        &[b"threads", b"--trace"],
+        FIRST,
+        FIRST_TURNS,
+    )
 }
 
 /// Where the session stands in the line of 16 turns, of sessions 1 and 2, that ends the text.
@@ -117,7 +101,7 @@ fn gate_two_sessions(rt: HostRuntime) -> Result<(), Fail> {
         passes: AtomicU64::new(0),
         met: AtomicU64::new(0),
     };
-    let words = threads(alloc, &[b"--trace"])?;
+    let words = words(alloc, &[b"threads", b"--trace"])?;
     let text = told(&rt, alloc, &words, REFINED_TWICE, &gate)?;
     assert_eq!(rt; gate.met.load(Ordering::SeqCst), 1);
     let first = places_of(alloc, text.as_slice(), b'1')?;

@@ -1,4 +1,4 @@
-use crate::tests::prints;
+// Statements on plain rows.
 use sg_plain::{
     Answer, End, PlainRows, Query, Statement, Test, Transaction, eval, execute, keys_with,
 };
@@ -118,14 +118,4 @@ fn keys_of_rows_within_a_point(rt: HostRuntime) -> Result<(), Fail> {
     assert_eq!(rt; keys.len(), 1);
     assert_eq!(rt; *keys.at(0).ok_or("a key")?, 3);
     Ok(())
-}
-
-#[test]
-fn prints_plans(rt: HostRuntime) -> Result<(), Fail> {
-    prints(
-        &rt,
-        rt.alloc(),
-        b"row 1 POINT (0 0)\nrow 2 POINT (5 5)\nsession 1\nbegin\nplan intersects POINT (5 5)\nplan distance <= 9 POINT (0 0)\nplan intersects POINT EMPTY\ncommit\n",
-        b"commit 1 session 1 transaction 1\n  plan 2 0 2 keys 2\n  plan 2 0 2 keys 1 2\n  plan 0 0 0 keys\nrows 2\n  1 POINT (0 0)\n  2 POINT (5 5)\n",
-    )
 }

@@ -1,4 +1,5 @@
-use crate::tests::{USAGE, put_turns, replay, replay_by, sink, source};
+// Queries that are refined by several workers.
+use crate::tests::{put_turns, sink, source, words};
 use sg_command::Words;
 use sg_program::{Status, replay_main};
 use sg_refine::{Gate, OpenGate};
@@ -38,11 +39,16 @@ fn gate_two_workers(rt: HostRuntime) -> Result<(), Fail> {
     };
     let mut script = source(
         alloc,
-        b"row 1 POINT (1 1)\nrow 2 POINT (2 2)\nsession 1\nbegin\nselect intersects POINT (2 2)\ncommit\n",
+        b"row 1 POINT (1 1)\n\
+          row 2 POINT (2 2)\n\
+          session 1\n\
+          begin\n\
+          select intersects POINT (2 2)\n\
+          commit\n",
     )?;
     let mut out = sink(alloc)?;
     let mut err = sink(alloc)?;
-    let words = replay_by(alloc, b"2")?;
+    let words = words(alloc, &[b"replay", b"--workers", b"2"])?;
     let status = replay_main(&rt, alloc, &words, &mut script, &mut out, &mut err, &gate);
     assert_eq!(rt; status, Status::Done);
     assert_eq!(rt; gate.met.load(Ordering::SeqCst), 1);
@@ -98,34 +104,14 @@ fn prints_city<R: Abort + Threads + Sync>(
 
 #[test]
 fn a_city_by_one_worker(rt: HostRuntime) -> Result<(), Fail> {
-    prints_city(&rt, rt.alloc(), &replay(rt.alloc())?)
+    prints_city(&rt, rt.alloc(), &words(rt.alloc(), &[b"replay"])?)
 }
 
 #[test]
 fn a_city_by_four_workers(rt: HostRuntime) -> Result<(), Fail> {
-    prints_city(&rt, rt.alloc(), &replay_by(rt.alloc(), b"4")?)
-}
-
-/// These words have no form: the usage line is told, and nothing is read.
-fn tells_usage<R: Abort + Threads + Sync>(
-    rt: &R,
-    alloc: Global,
-    words: &Words,
-) -> Result<(), Fail> {
-    let mut script = source(alloc, b"session 1\n")?;
-    let mut out = sink(alloc)?;
-    let mut err = sink(alloc)?;
-    let status = replay_main(rt, alloc, words, &mut script, &mut out, &mut err, &OpenGate);
-    assert_eq!(rt; status.number(), 1);
-    assert!(rt; out.taken().is_empty());
-    assert!(rt; err.taken() == USAGE);
-    Ok(())
-}
-
-#[test]
-fn refuses_other_numbers(rt: HostRuntime) -> Result<(), Fail> {
-    let alloc = rt.alloc();
-    tells_usage(&rt, alloc, &replay_by(alloc, b"0")?)?;
-    tells_usage(&rt, alloc, &replay_by(alloc, b"65")?)?;
-    tells_usage(&rt, alloc, &replay_by(alloc, b"+5")?)
+    prints_city(
+        &rt,
+        rt.alloc(),
+        &words(rt.alloc(), &[b"replay", b"--workers", b"4"])?,
+    )
 }

@@ -1,18 +1,13 @@
 //! The program of `spatial_cli` with one output, on which it tells too how it ended. It is stored with a text that is
-//! refused, and its tests are of hostile use: texts that are cut or too long, devices that fail, arguments that are no
-//! texts, results that nobody waits for, and crowds of sessions.
+//! refused. Texts that are cut or too long and crowds of sessions are cases of `tests/` at the top of the repository; the
+//! tests here are of hostile use that no text shows: devices that fail at one call, arguments that are no texts, and
+//! results that nobody waits for.
 #![tactic(auto)]
 
 #[cfg(test)]
-mod crowd_tests;
-#[cfg(test)]
 mod device_tests;
 #[cfg(test)]
-mod fault_tests;
-#[cfg(test)]
 mod process_tests;
-#[cfg(test)]
-mod size_tests;
 #[cfg(test)]
 mod stranger_tests;
 #[cfg(test)]

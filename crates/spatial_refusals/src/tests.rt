@@ -1,13 +1,8 @@
 // What the tests share.
 use sg_command::Words;
 use sg_io::{MemorySink, MemorySource};
-use sg_program::{Status, spatial_main};
-use sg_refine::OpenGate;
 use std::alloc::Global;
-use std::process::Abort;
-use std::sync::Wait;
 use std::test::Fail;
-use std::thread::Threads;
 
 /// A script of one transaction, and what it prints.
 pub const FIRST: &[u8] =
@@ -34,40 +29,4 @@ pub fn source(alloc: Global, text: &[u8]) -> Result<MemorySource, Fail> {
 
 pub fn sink(alloc: Global) -> Result<MemorySink, Fail> {
     Ok(MemorySink::new(alloc, 100, 65_536, Vec::new(alloc))?)
-}
-
-/// A script is played, and the text that is printed is this one.
-pub fn prints<R: Abort + Threads + Wait + Sync>(
-    rt: &R,
-    alloc: Global,
-    script: &[u8],
-    text: &[u8],
-) -> Result<(), Fail> {
-    let mut source = source(alloc, script)?;
-    let mut out = sink(alloc)?;
-    let mut err = sink(alloc)?;
-    let status = spatial_main(
-        rt,
-        alloc,
-        &replay(alloc)?,
-        &mut source,
-        &mut out,
-        &mut err,
-        &OpenGate,
-    );
-    assert_eq!(rt; status, Status::Done);
-    assert!(rt; out.taken() == text);
-    assert!(rt; err.taken().is_empty());
-    Ok(())
-}
-
-/// Puts a schedule line last: so many turns of the session, one after another.
-pub fn put_turns(text: &mut Vec<u8>, session: &[u8], turns: u32) -> Result<(), Fail> {
-    text.extend_from_slice(b"schedule")?;
-    for _ in 0..turns {
-        text.extend_from_slice(b" ")?;
-        text.extend_from_slice(session)?;
-    }
-    text.extend_from_slice(b"\n")?;
-    Ok(())
 }
