@@ -1,5 +1,5 @@
-ghost use Rattle.std.specs.Prelude.{◌≡◌, [], ◌∷◌, IfOk};
-ghost use Rattle.sg_texts.specs.Labels.{labels_text};
+//! Labels as they are printed.
+
 ghost use Rattle.sg_texts.specs.Sound.{IsSoundLabel};
 
 use crate::labels::append_labels;
@@ -14,146 +14,102 @@ fn session(number: u8) -> Result<Session, Fail> {
     Ok(Session::new(number).ok_or("a session has a number from 1 to 64")?)
 }
 
-// the text of a trace of one label
-fn text_of(alloc: Global, label: Label) -> Result<Vec<u8>, AllocError>
+fn append_label(alloc: Global, label: Label, out: &mut Vec<u8>) -> Result<(), AllocError>
     requires { IsSoundLabel label }
-    ensures { IfOk result (λ text. text.items ≡ labels_text (label ∷ [])) }
+{
+    let labels = [label];
+    append_labels(alloc, labels.as_slice(), out)
+}
+
+/// Whether a trace of this one label has this text.
+fn is_told(alloc: Global, label: Label, wanted: &[u8]) -> bool
+    requires { IsSoundLabel label }
 {
     let mut out = Vec::new(alloc);
-    let labels = [label];
-    append_labels(alloc, labels.as_slice(), &mut out)?;
-    Ok(out)
+    append_label(alloc, label, &mut out).is_ok() && out.as_slice() == wanted
 }
 
-#[test]
-fn begins(rt: HostRuntime) -> Result<(), Fail> {
+fn begins(alloc: Global, session: Session) -> bool {
     let label = Label::Begin {
-        session: session(1)?,
+        session,
         transaction: 20,
     };
-    let text = text_of(rt.alloc(), label)?;
-    assert!(rt; text.as_slice() == b"labels 1\n  session 1 begin 20\n".as_slice());
-    Ok(())
+    is_told(alloc, label, b"labels 1\n  session 1 begin 20\n".as_slice())
 }
 
-#[test]
-fn asks(rt: HostRuntime) -> Result<(), Fail> {
+fn asks(alloc: Global, session: Session) -> bool {
     let label = Label::Ask {
-        session: session(64)?,
+        session,
         statement: 3,
     };
-    let text = text_of(rt.alloc(), label)?;
-    assert!(rt; text.as_slice() == b"labels 1\n  session 64 ask 3\n".as_slice());
-    Ok(())
+    is_told(alloc, label, b"labels 1\n  session 64 ask 3\n".as_slice())
+}
+
+fn answers(alloc: Global, session: Session) -> bool {
+    let label = Label::Answer {
+        session,
+        answer: Answer::Inserted,
+    };
+    is_told(
+        alloc,
+        label,
+        b"labels 1\n  session 1 answer inserted\n".as_slice(),
+    )
+}
+
+fn commits(alloc: Global, session: Session) -> bool {
+    let label = Label::Commit { session, place: 2 };
+    is_told(alloc, label, b"labels 1\n  session 1 commit 2\n".as_slice())
 }
 
 #[test]
-fn takes_the_end(rt: HostRuntime) -> Result<(), Fail> {
+fn what_a_script_asks_for(rt: HostRuntime) -> Result<(), Fail> {
+    let one = session(1)?;
+    let last = session(64)?;
+    assert!(rt; begins(rt.alloc(), one));
+    assert!(rt; asks(rt.alloc(), last));
+    assert!(rt; answers(rt.alloc(), one));
+    assert!(rt; commits(rt.alloc(), one));
+    Ok(())
+}
+
+fn takes_the_end(alloc: Global, session: Session) -> bool {
     let label = Label::Take {
-        session: session(1)?,
+        session,
         key: Key::CellEnd,
         mode: Mode::RangeSS,
     };
-    let text = text_of(rt.alloc(), label)?;
-    assert!(rt; text.as_slice() == b"labels 1\n  session 1 take cell end RangeS-S\n".as_slice());
-    Ok(())
+    is_told(
+        alloc,
+        label,
+        b"labels 1\n  session 1 take cell end RangeS-S\n".as_slice(),
+    )
 }
 
-#[test]
-fn puts_a_row(rt: HostRuntime) -> Result<(), Fail> {
+fn puts_a_row(alloc: Global, session: Session) -> bool {
     let label = Label::Put {
-        session: session(1)?,
+        session,
         key: Key::Row(4_294_967_295),
         mode: Mode::RangeXX,
     };
-    let text = text_of(rt.alloc(), label)?;
-    let wanted = b"labels 1\n  session 1 put row 4294967295 RangeX-X\n";
-    assert!(rt; text.as_slice() == wanted.as_slice());
-    Ok(())
+    is_told(
+        alloc,
+        label,
+        b"labels 1\n  session 1 put row 4294967295 RangeX-X\n".as_slice(),
+    )
 }
 
-#[test]
-fn puts_what_lies_outside(rt: HostRuntime) -> Result<(), Fail> {
+/// Whether a cell that is put has this text.
+fn puts(alloc: Global, session: Session, cell: Cell, row: u32, wanted: &[u8]) -> bool {
     let label = Label::Put {
-        session: session(1)?,
-        key: Key::Cell(Cell::outside(), 7),
+        session,
+        key: Key::Cell(cell, row),
         mode: Mode::X,
     };
-    let text = text_of(rt.alloc(), label)?;
-    assert!(rt; text.as_slice() == b"labels 1\n  session 1 put cell out row 7 X\n".as_slice());
-    Ok(())
+    is_told(alloc, label, wanted)
 }
 
-#[test]
-fn waits(rt: HostRuntime) -> Result<(), Fail> {
-    let label = Label::Wait {
-        session: session(2)?,
-        key: Key::RowEnd,
-        mode: Mode::RangeIN,
-        blockers: Sessions::none().with(session(64)?).with(session(1)?),
-    };
-    let text = text_of(rt.alloc(), label)?;
-    let wanted = b"labels 1\n  session 2 wait row end RangeI-N for 1 64\n";
-    assert!(rt; text.as_slice() == wanted.as_slice());
-    Ok(())
-}
-
-#[test]
-fn falls_as_a_victim(rt: HostRuntime) -> Result<(), Fail> {
-    let label = Label::Victim {
-        session: session(2)?,
-        cycle: Sessions::none().with(session(2)?).with(session(1)?),
-    };
-    let text = text_of(rt.alloc(), label)?;
-    assert!(rt; text.as_slice() == b"labels 1\n  session 2 victim cycle 1 2\n".as_slice());
-    Ok(())
-}
-
-#[test]
-fn answers(rt: HostRuntime) -> Result<(), Fail> {
-    let label = Label::Answer {
-        session: session(3)?,
-        answer: Answer::Inserted,
-    };
-    let text = text_of(rt.alloc(), label)?;
-    assert!(rt; text.as_slice() == b"labels 1\n  session 3 answer inserted\n".as_slice());
-    Ok(())
-}
-
-#[test]
-fn commits(rt: HostRuntime) -> Result<(), Fail> {
-    let label = Label::Commit {
-        session: session(1)?,
-        place: 2,
-    };
-    let text = text_of(rt.alloc(), label)?;
-    assert!(rt; text.as_slice() == b"labels 1\n  session 1 commit 2\n".as_slice());
-    Ok(())
-}
-
-#[test]
-fn rolls_back(rt: HostRuntime) -> Result<(), Fail> {
-    let label = Label::Rollback {
-        session: session(1)?,
-        cause: Cause::Asked,
-    };
-    let text = text_of(rt.alloc(), label)?;
-    assert!(rt; text.as_slice() == b"labels 1\n  session 1 rollback asked\n".as_slice());
-    Ok(())
-}
-
-#[test]
-fn finds_no_memory(rt: HostRuntime) -> Result<(), Fail> {
-    let label = Label::Rollback {
-        session: session(1)?,
-        cause: Cause::NoMemory,
-    };
-    let text = text_of(rt.alloc(), label)?;
-    assert!(rt; text.as_slice() == b"labels 1\n  session 1 rollback memory\n".as_slice());
-    Ok(())
-}
-
-// the cell 32.0.13.16 of a grid from (0, 0) to (500, 200)
+/// The cell 32.0.13 of a grid from (0, 0) to (500, 200).
 fn cell_at_the_middle() -> Result<Cell, Fail> {
     let levels = [
         Density::Medium,
@@ -164,19 +120,62 @@ fn cell_at_the_middle() -> Result<Cell, Fail> {
     let grid = Grid::new(0, 0, 500, 200, levels, 16).ok().ok_or("a grid")?;
     let first = grid.child(None, 32);
     let second = grid.child(Some(first), 0);
-    let third = grid.child(Some(second), 13);
-    Ok(grid.child(Some(third), 16))
+    Ok(grid.child(Some(second), 13))
 }
 
 #[test]
-fn puts_a_cell(rt: HostRuntime) -> Result<(), Fail> {
-    let label = Label::Put {
-        session: session(1)?,
-        key: Key::Cell(cell_at_the_middle()?, 1),
-        mode: Mode::X,
+fn keys_that_are_locked(rt: HostRuntime) -> Result<(), Fail> {
+    let one = session(1)?;
+    let cell = cell_at_the_middle()?;
+    assert!(rt; takes_the_end(rt.alloc(), one));
+    assert!(rt; puts_a_row(rt.alloc(), one));
+    let wanted = b"labels 1\n  session 1 put cell out row 7 X\n";
+    assert!(rt; puts(rt.alloc(), one, Cell::outside(), 7, wanted.as_slice()));
+    let wanted = b"labels 1\n  session 1 put cell 32.0.13 row 1 X\n";
+    assert!(rt; puts(rt.alloc(), one, cell, 1, wanted.as_slice()));
+    Ok(())
+}
+
+fn waits(alloc: Global, session: Session, blockers: Sessions) -> bool {
+    let label = Label::Wait {
+        session,
+        key: Key::RowEnd,
+        mode: Mode::RangeIN,
+        blockers,
     };
-    let text = text_of(rt.alloc(), label)?;
-    let wanted = b"labels 1\n  session 1 put cell 32.0.13.16 row 1 X\n";
-    assert!(rt; text.as_slice() == wanted.as_slice());
+    is_told(
+        alloc,
+        label,
+        b"labels 1\n  session 2 wait row end RangeI-N for 1 64\n".as_slice(),
+    )
+}
+
+fn falls_as_a_victim(alloc: Global, session: Session, cycle: Sessions) -> bool {
+    let label = Label::Victim { session, cycle };
+    is_told(
+        alloc,
+        label,
+        b"labels 1\n  session 2 victim cycle 1 2\n".as_slice(),
+    )
+}
+
+/// Whether a rollback of this cause has this text.
+fn rolls_back(alloc: Global, session: Session, cause: Cause, wanted: &[u8]) -> bool {
+    is_told(alloc, Label::Rollback { session, cause }, wanted)
+}
+
+#[test]
+fn sessions_in_the_way(rt: HostRuntime) -> Result<(), Fail> {
+    let one = session(1)?;
+    let two = session(2)?;
+    let last = session(64)?;
+    let blockers = Sessions::none().with(last).with(one);
+    assert!(rt; waits(rt.alloc(), two, blockers));
+    let cycle = Sessions::none().with(two).with(one);
+    assert!(rt; falls_as_a_victim(rt.alloc(), two, cycle));
+    let wanted = b"labels 1\n  session 1 rollback asked\n";
+    assert!(rt; rolls_back(rt.alloc(), one, Cause::Asked, wanted.as_slice()));
+    let wanted = b"labels 1\n  session 1 rollback memory\n";
+    assert!(rt; rolls_back(rt.alloc(), one, Cause::NoMemory, wanted.as_slice()));
     Ok(())
 }
