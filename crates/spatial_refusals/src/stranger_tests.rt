@@ -7,6 +7,7 @@ use sg_relate::Relate;
 use sg_run::{Run, Turn};
 use sg_script::read_script;
 use std::alloc::Global;
+use std::mem::ManuallyDrop;
 use std::test::Fail;
 use std::thread::Threads;
 
@@ -28,8 +29,9 @@ const OTHERS: &[u8] =
 const FEWER: &[u8] =
     b"row 1 POINT (2 2)\nsession 1\nbegin\nselect intersects POINT (2 2)\ncommit\n";
 
-/// A run on plain rows, with the judges of the program.
-type Real = Run<Relate, CellTest>;
+/// A run with the judges of the program. It isn't let go: its process ends with the test, and no test has to be proved
+/// to let go of all that a run holds.
+type Real = ManuallyDrop<Run<Relate, CellTest>>;
 
 fn session(number: u8) -> Result<Session, Fail> {
     Ok(Session::new(number).ok_or("a session has a number from 1 to 64")?)
@@ -40,9 +42,12 @@ fn opened<R: Threads + Sync>(rt: &R, alloc: Global, script: &[u8]) -> Result<Rea
     if script.len() > 1_000 {
         return Err(Fail::from("too long"));
     }
-    match read_script(alloc, script) {
-        Ok(script) => Ok(Run::open(rt, alloc, Relate, CellTest, script)?),
-        Err(_) => Err(Fail::from("no script")),
+    let Ok(script) = read_script(alloc, script) else {
+        return Err(Fail::from("no script"));
+    };
+    match Run::open(rt, alloc, Relate, CellTest, script) {
+        Ok(run) => Ok(ManuallyDrop::new(run)),
+        Err(_) => Err(Fail::from("no memory for a run")),
     }
 }
 
@@ -65,70 +70,98 @@ fn result_of<R: Threads + Sync>(rt: &R, alloc: Global, script: &[u8]) -> Result<
     refined(rt, alloc, &mut run)
 }
 
-#[test]
-fn nobody_waits_for_it(rt: HostRuntime) -> Result<(), Fail> {
-    let alloc = rt.alloc();
-    let mut run = opened(&rt, alloc, MINE)?;
-    let done = refined(&rt, alloc, &mut run)?;
-    let refusal = run.hand_in(session(2)?, done);
-    assert!(rt; matches!(refusal, Err(Stranger::Name { expected: None, .. })));
-    let mine = refined(&rt, alloc, &mut run)?;
-    assert!(rt; run.hand_in(session(1)?, mine).is_ok());
-    Ok(())
+/// A session gets a result that isn't its own: why that is refused, or `None` where it is taken. What session 1 waits
+/// for is taken then.
+fn refused(
+    run: &mut Real,
+    asked: Session,
+    other: RefineDone,
+    mine: RefineDone,
+) -> Result<Option<Stranger>, Fail> {
+    let waiting = session(1)?;
+    let refusal = run.hand_in(asked, other).err();
+    if run.hand_in(waiting, mine).is_err() {
+        return Err(Fail::from("its own result is refused"));
+    }
+    Ok(refusal)
+}
+
+/// Why session 1 refuses the result of the first job in a run of the script.
+fn refusal_of<R: Threads + Sync>(
+    rt: &R,
+    alloc: Global,
+    script: &[u8],
+) -> Result<Option<Stranger>, Fail> {
+    let mut run = opened(rt, alloc, MINE)?;
+    let asked = session(1)?;
+    let mine = refined(rt, alloc, &mut run)?;
+    let other = result_of(rt, alloc, script)?;
+    refused(&mut run, asked, other, mine)
 }
 
 #[test]
 fn it_has_another_name(rt: HostRuntime) -> Result<(), Fail> {
-    let alloc = rt.alloc();
-    let mut run = opened(&rt, alloc, MINE)?;
-    let mine = refined(&rt, alloc, &mut run)?;
-    let refusal = run.hand_in(session(1)?, result_of(&rt, alloc, LATER)?);
+    let refusal = refusal_of(&rt, rt.alloc(), LATER)?;
     assert!(rt;
         matches!(
             refusal,
-            Err(Stranger::Name {
+            Some(Stranger::Name {
                 expected: Some(_),
                 ..
             })
         )
     );
-    assert!(rt; run.hand_in(session(1)?, mine).is_ok());
     Ok(())
 }
 
 #[test]
 fn it_asks_for_another_shape(rt: HostRuntime) -> Result<(), Fail> {
-    let alloc = rt.alloc();
-    let mut run = opened(&rt, alloc, MINE)?;
-    let mine = refined(&rt, alloc, &mut run)?;
-    let refusal = run.hand_in(session(1)?, result_of(&rt, alloc, ELSEWHERE)?);
-    assert!(rt; matches!(refusal, Err(Stranger::Asked { .. })));
-    assert!(rt; run.hand_in(session(1)?, mine).is_ok());
+    let refusal = refusal_of(&rt, rt.alloc(), ELSEWHERE)?;
+    assert!(rt; matches!(refusal, Some(Stranger::Asked { .. })));
     Ok(())
 }
 
 #[test]
 fn it_has_other_candidates(rt: HostRuntime) -> Result<(), Fail> {
-    let alloc = rt.alloc();
-    let mut run = opened(&rt, alloc, MINE)?;
-    let mine = refined(&rt, alloc, &mut run)?;
-    let refusal = run.hand_in(session(1)?, result_of(&rt, alloc, OTHERS)?);
-    assert!(rt; matches!(refusal, Err(Stranger::Item { at: 1 })));
-    let refusal = run.hand_in(session(1)?, result_of(&rt, alloc, FEWER)?);
-    assert!(rt; matches!(refusal, Err(Stranger::Item { at: 1 })));
-    assert!(rt; run.hand_in(session(1)?, mine).is_ok());
+    let refusal = refusal_of(&rt, rt.alloc(), OTHERS)?;
+    assert!(rt; matches!(refusal, Some(Stranger::Item { at: 1 })));
+    let refusal = refusal_of(&rt, rt.alloc(), FEWER)?;
+    assert!(rt; matches!(refusal, Some(Stranger::Item { at: 1 })));
     Ok(())
+}
+
+#[test]
+fn nobody_waits_for_it(rt: HostRuntime) -> Result<(), Fail> {
+    let mut run = opened(&rt, rt.alloc(), MINE)?;
+    let idle = session(2)?;
+    let done = refined(&rt, rt.alloc(), &mut run)?;
+    let mine = refined(&rt, rt.alloc(), &mut run)?;
+    let refusal = refused(&mut run, idle, done, mine)?;
+    assert!(rt; matches!(refusal, Some(Stranger::Name { expected: None, .. })));
+    Ok(())
+}
+
+/// Session 1 gets its result twice: why the second time is refused, or `None` where it is taken again.
+fn refused_again(
+    run: &mut Real,
+    waiting: Session,
+    first: RefineDone,
+    again: RefineDone,
+) -> Result<Option<Stranger>, Fail> {
+    if run.hand_in(waiting, first).is_err() {
+        return Err(Fail::from("its own result is refused"));
+    }
+    Ok(run.hand_in(waiting, again).err())
 }
 
 // A job is given again until its result has come, and the result is taken once.
 #[test]
 fn it_is_given_again(rt: HostRuntime) -> Result<(), Fail> {
-    let alloc = rt.alloc();
-    let mut run = opened(&rt, alloc, MINE)?;
-    let first = refined(&rt, alloc, &mut run)?;
-    let again = refined(&rt, alloc, &mut run)?;
-    assert!(rt; run.hand_in(session(1)?, first).is_ok());
-    let refusal = run.hand_in(session(1)?, again);
-    assert!(rt; matches!(refusal, Err(Stranger::Name { expected: None, .. })));
+    let mut run = opened(&rt, rt.alloc(), MINE)?;
+    let waiting = session(1)?;
+    let first = refined(&rt, rt.alloc(), &mut run)?;
+    let again = refined(&rt, rt.alloc(), &mut run)?;
+    let refusal = refused_again(&mut run, waiting, first, again)?;
+    assert!(rt; matches!(refusal, Some(Stranger::Name { expected: None, .. })));
     Ok(())
 }
